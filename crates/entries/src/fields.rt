@@ -2,6 +2,7 @@
 ghost use mathlib.Core.Path.{_≡_};
 ghost use Rattle.entries.specs.Fields.{entry-of, unused, unknown-rule, bad-width, beyond, overlap, hides-many, entry-checks};
 ghost use Rattle.refusals.specs.Checks.{judged};
+use assignment::has_bit_from;
 use crate::entry::Entry;
 use refusals::Refusal;
 
@@ -27,9 +28,9 @@ pub struct EntryFields {
 }
 
 impl EntryFields {
-    /// The entry that these fields stand for, with `options` options over `below` rules,
-    /// or the first refusal that applies.
-    pub fn entry(self, options: u32, below: u32) -> Result<Entry, Refusal>
+    // The entry that these fields stand for, with `options` options over `below` rules,
+    // or the first refusal that applies.
+    pub(crate) fn entry(self, options: u32, below: u32) -> Result<Entry, Refusal>
         ensures { λ r. ⌜ r ≡ judged (entry-checks options below self) (entry-of self) ⌝ }
     {
         if self.op > NONE {
@@ -92,7 +93,7 @@ impl EntryFields {
         }
     }
 
-    // Whether a range or a mask reaches past the options. The sums saturate far above any number of options.
+    // Whether a range or a mask reaches past the options.
     fn reaches_beyond(self, options: u32) -> bool
         ensures { λ r. ⌜ r ≡ beyond options self ⌝ }
     {
@@ -101,7 +102,7 @@ impl EntryFields {
                 let room = (options as u64).saturating_sub(self.word);
                 self.word > options as u64 || self.second as u64 > room || self.third as u64 > room
             }
-            PROJECTION => options < 64 && self.word >> options != 0,
+            PROJECTION => has_bit_from(self.word, options),
             _ => false,
         }
     }

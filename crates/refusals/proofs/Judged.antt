@@ -1,12 +1,12 @@
 -- Laws of judging by a list of checks: the value plays no part in a refusal, and lists of checks follow one another.
-use mathlib.Core.Path.{_≡_, refl, sym}
-use mathlib.Core.Bool.{true, false, cond}
+use mathlib.Core.Path.{_≡_, refl, sym, subst}
+use mathlib.Core.Bool.{Bool, true, false, cond}
 use mathlib.Core.List.{List, [], _∷_, _++_}
 use Prim.Native.Nat.{ℕ}
 use native.Mathlib.Omega.{arith}
 use Rattle.std.specs.declared.result.Result.{Result}
 use Rattle.std.specs.declared.result.Result.the-variants.{Ok, Err}
-use Rattle.refusals.specs.Checks.{Check, judged, within}
+use Rattle.refusals.specs.Checks.{Check, First, here, judged, later, when, within}
 
 pub ok-is-no-err : {A F : Type 0} {a : A} {e : F} → Ok a ≡ Err e → ⊥
 ok-is-no-err h = let z : _≡_ {A = ℕ} 0 1 = cc in omega arith
@@ -62,3 +62,26 @@ pub judged-head : {A F : Type 0} (c : Check F) (cs : List (Check F)) (a x : A) �
 judged-head c cs a x h =
     elim (c .holds) as (λ t. cond t (Err (c .fault)) (judged cs a) ≡ Ok x → t ≡ false)
     [ true ↦ λ p. absurd (ok-is-no-err (sym p)) | false ↦ λ p. refl ] h
+
+-- a lone check that holds is the first of those that follow it, in a wider fault
+pub judged-lone : {A B F G : Type 0} (a : A) (b : B) (w : F → G) (t : Bool) (f e : F) (cs : List (Check G)) → judged (when t f ∷ []) a ≡ Err e → judged (when t (w f) ∷ cs) b ≡ Err (w e)
+judged-lone a b w true f e cs h = let q : f ≡ e = cc in cc
+judged-lone a b w false f e cs h = absurd (ok-is-no-err h)
+
+pub judged-tail : {A F : Type 0} (c : Check F) (cs : List (Check F)) (a x : A) → judged (c ∷ cs) a ≡ Ok x → judged cs a ≡ Ok x
+judged-tail c cs a x h =
+    elim (c .holds) as (λ t. cond t (Err (c .fault)) (judged cs a) ≡ Ok x → judged cs a ≡ Ok x)
+    [ true ↦ λ p. absurd (ok-is-no-err (sym p)) | false ↦ λ p. p ] h
+
+-- the fault that is judged is that of the first check that holds
+pub judged-first : {A F : Type 0} (cs : List (Check F)) (a : A) (f : F) → judged cs a ≡ Err f → First cs f
+judged-first [] a f h = absurd (ok-is-no-err h)
+judged-first (c ∷ cs) a f h = go (c .holds) refl h (judged-first cs a f)
+  where
+    go : (t : Bool) → c .holds ≡ t → cond t (Err (c .fault)) (judged cs a) ≡ Err f → (judged cs a ≡ Err f → First cs f) → First (c ∷ cs) f
+    go true e p more = let q : c .fault ≡ f = cc in subst (λ g. First (c ∷ cs) g) q (here e)
+    go false e p more = later e (more p)
+
+pub first-judged : {A F : Type 0} (cs : List (Check F)) (a : A) (f : F) → First cs f → judged cs a ≡ Err f
+first-judged cs a f (here h) = rw h
+first-judged cs a f (later {c = c} {cs = ds} h k) = rw h (first-judged ds a f k)

@@ -1,6 +1,7 @@
 -- Judging by a list of checks in their order: the first that holds decides.
-use mathlib.Core.Bool.{Bool, cond}
+use mathlib.Core.Bool.{Bool, true, false, cond}
 use mathlib.Core.List.{List, [], _∷_}
+use mathlib.Core.Path.{_≡_}
 use Rattle.std.specs.declared.result.Result.{Result}
 use Rattle.std.specs.declared.result.Result.the-variants.{Ok, Err}
 
@@ -21,3 +22,8 @@ judged (c ∷ cs) a = cond (c .holds) (Err (c .fault)) (judged cs a)
 abbrev pub within : {F G : Type 0} → (F → G) → List (Check F) → List (Check G)
 within w [] = []
 within w (c ∷ cs) = when (c .holds) (w (c .fault)) ∷ within w cs
+
+-- the first check of a list that holds has this fault
+pub data First {F : Type 0} : List (Check F) → F → Type 0 where
+  here : {c : Check F} {cs : List (Check F)} → c .holds ≡ true → First (c ∷ cs) (c .fault)
+  later : {c : Check F} {cs : List (Check F)} {f : F} → c .holds ≡ false → First cs f → First (c ∷ cs) f

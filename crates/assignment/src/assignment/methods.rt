@@ -4,8 +4,9 @@ ghost use mathlib.Core.Bool.{not};
 ghost use lib.Dec.{eqb};
 ghost use lib.Bits.{bitAnd};
 ghost use Rattle.std.specs.declared.option.Option.the-variants.{Some, None};
-ghost use Rattle.assignment.specs.Knows.{has, value-of};
+ghost use Rattle.assignment.specs.Knows.{value-of};
 use super::Assignment;
+use crate::mask::has_bit;
 use crate::value::Value;
 
 impl Assignment {
@@ -51,14 +52,4 @@ impl Assignment {
             (false, false) => Value::Unknown,
         }
     }
-}
-
-// Whether bit `option` of a mask is set; no bit from 64 on is.
-fn has_bit(mask: u64, option: u32) -> bool
-    ensures { λ r. ⌜ r ≡ has mask option ⌝ }
-{
-    if option >= 64 {
-        return false;
-    }
-    (mask >> option) % 2 == 1
 }

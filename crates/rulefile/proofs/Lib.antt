@@ -1,0 +1,2 @@
+mod Heads
+mod Parts

@@ -1,0 +1,20 @@
+// Reading a rule file: its records, its contents, and the fault where it is refused. Uses `assignment`, `refusals`,
+// `entries` and `ruleformat`.
+mod bytes;
+mod clauses;
+mod file;
+mod folder;
+mod reader;
+mod record;
+mod space;
+mod start;
+mod table;
+
+pub use clauses::ClauseSheet;
+pub use file::RuleFile;
+pub use reader::read;
+pub use record::Before;
+pub use record::Record;
+pub use record::next_record;
+pub use space::Space;
+pub use table::TableSheet;

@@ -1,0 +1,12 @@
+pub mod Bytes
+pub mod Clauses
+pub mod Contents
+pub mod Encoding
+pub mod Folders
+pub mod Kinds
+pub mod Laws
+pub mod Reading
+pub mod Records
+pub mod Starts
+pub mod Tables
+pub mod WellFormed
