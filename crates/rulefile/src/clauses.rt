@@ -9,6 +9,7 @@ ghost use Rattle.refusals.specs.declared.refusal.Refusal.the-variants.{Unfit};
 ghost use Rattle.ruleformat.specs.Records.{at};
 ghost use Rattle.ruleformat.specs.Clauses.{clause-checks, clause-pieces, clause-size, clauses-checks, unfit-clauses, wanted-bytes, wanted-checks};
 ghost use Rattle.rulefile.specs.Views.{clause-body, seen};
+use crate::walk::Clauses;
 use refusals::RecordFault;
 use refusals::Refusal;
 use refusals::SheetFault;
@@ -31,6 +32,13 @@ impl<'a> ClauseSheet<'a> {
         check_shape(body, place)?;
         check_clauses(body, place, options)?;
         Ok(ClauseSheet { body })
+    }
+
+    /// The clauses, from the first on.
+    pub fn clauses(&self) -> Clauses<'a>
+        ensures { λ r. ⌜ now (r .rest) ≡ clause-body (now (self .entry)) ⌝ }
+    {
+        Clauses { rest: self.body }
     }
 }
 

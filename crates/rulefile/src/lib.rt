@@ -9,6 +9,7 @@ mod record;
 mod space;
 mod start;
 mod table;
+mod walk;
 
 pub use clauses::ClauseSheet;
 pub use file::RuleFile;
@@ -18,3 +19,10 @@ pub use record::Record;
 pub use record::next_record;
 pub use space::Space;
 pub use table::TableSheet;
+pub use walk::Clause;
+pub use walk::ClauseIterator;
+pub use walk::Clauses;
+pub use walk::ClausesIterator;
+pub use walk::Rows;
+pub use walk::RowsIterator;
+pub use walk::Wanted;

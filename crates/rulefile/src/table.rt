@@ -6,9 +6,10 @@ ghost use lib.ListN.{length};
 ghost use Rattle.refusals.specs.Checks.{judged, when};
 ghost use Rattle.refusals.specs.declared.refusal.Refusal.the-variants.{Unfit};
 ghost use Rattle.ruleformat.specs.Records.{at};
-ghost use Rattle.ruleformat.specs.Tables.{column-checks, row-checks, rows-in, table-checks, unfit-table, width as width-of};
+ghost use Rattle.ruleformat.specs.Tables.{column-checks, columns-of, row-checks, rows-in, rows-of, table-checks, unfit-table, width as width-of};
 ghost use Rattle.rulefile.specs.Views.{seen, table-body};
 use crate::bytes::read_u16;
+use crate::walk::Rows;
 use assignment::has_bit_from;
 use refusals::RecordFault;
 use refusals::Refusal;
@@ -33,6 +34,28 @@ impl<'a> TableSheet<'a> {
         check_columns(&body[1..1 + columns], place, options)?;
         check_rows(&body[1 + columns..], columns as u32, place)?;
         Ok(TableSheet { body })
+    }
+
+    /// The columns, which are options.
+    pub fn columns(&self) -> &'a [u8]
+        ensures { λ r. ⌜ now r ≡ columns-of (table-body (now (self .entry))) ⌝ }
+    {
+        let body = self.body;
+        if body.is_empty() {
+            return body;
+        }
+        &body[1..body.len().min(1 + body[0] as usize)]
+    }
+
+    /// The rows, from the first on.
+    pub fn rows(&self) -> Rows<'a>
+        ensures { λ r. ⌜ rows-in (now (r .rest)) ≡ rows-of (table-body (now (self .entry))) ⌝ }
+    {
+        let body = self.body;
+        if body.is_empty() {
+            return Rows { rest: body };
+        }
+        Rows { rest: &body[body.len().min(1 + body[0] as usize)..] }
     }
 }
 
