@@ -27,3 +27,8 @@ within w (c ∷ cs) = when (c .holds) (w (c .fault)) ∷ within w cs
 pub data First {F : Type 0} : List (Check F) → F → Type 0 where
   here : {c : Check F} {cs : List (Check F)} → c .holds ≡ true → First (c ∷ cs) (c .fault)
   later : {c : Check F} {cs : List (Check F)} {f : F} → c .holds ≡ false → First cs f → First (c ∷ cs) f
+
+-- a result by what its value stands for
+abbrev pub seen : {A B E : Type 0} → (A → B) → Result A E → Result B E
+seen f (Ok x) = Ok (f x)
+seen f (Err e) = Err e

@@ -1,3 +1,2 @@
-mod Ends
 mod Heads
 mod Parts

@@ -1,3 +1,2 @@
 pub mod Held
 pub mod Views
-pub mod Walks

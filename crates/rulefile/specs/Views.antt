@@ -3,22 +3,13 @@ use Prim.Native.Nat.{ℕ}
 use mathlib.Core.List.{List, map}
 use denote.Ref.{now}
 use Rattle.std.specs.Of.Vec.{vec-items}
-use Rattle.std.specs.declared.result.Result.{Result}
-use Rattle.std.specs.declared.result.Result.the-variants.{Ok, Err}
 use Rattle.ruleformat.specs.Records.{kind, body}
 use Rattle.ruleformat.specs.Starts.{start-options, yes-mask, no-mask}
-use Rattle.rulefile.specs.declared.clauses.ClauseSheet.{ClauseSheet}
 use Rattle.rulefile.specs.declared.start.Start.{Start}
-use Rattle.rulefile.specs.declared.table.TableSheet.{TableSheet}
 use Rattle.entries.specs.declared.draft.Draft.{Draft}
 use Rattle.entries.specs.declared.entry.Entry.{Entry}
 use Rattle.rulefile.specs.declared.record.Record.{Record}
 use Rattle.rulefile.specs.declared.record.Record.the-variants as record-case
-
--- a result by what its value stands for
-abbrev pub seen : {A B E : Type 0} → (A → B) → Result A E → Result B E
-seen f (Ok x) = Ok (f x)
-seen f (Err e) = Err e
 
 -- a start by the number of options and its two masks
 pub record StartView : Type 0 where
@@ -32,13 +23,7 @@ start-view s = record { options = s .options; yes-options = s .known .yes; no-op
 abbrev pub start-in : List ℕ → StartView
 start-in b = record { options = start-options b; yes-options = yes-mask b; no-options = no-mask b }
 
--- a sheet by its body, a draft by its entries
-abbrev pub table-body : TableSheet → List ℕ
-table-body t = now (t .body)
-
-abbrev pub clause-body : ClauseSheet → List ℕ
-clause-body s = now (s .body)
-
+-- a draft by its entries
 abbrev pub drafted : Draft → List Entry
 drafted d = vec-items (d .entries)
 

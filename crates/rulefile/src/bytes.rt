@@ -2,15 +2,7 @@
 ghost use mathlib.Core.Path.{_≡_};
 ghost use Prim.Native.Nat.{_+_, _≤_};
 ghost use lib.ListN.{length, take, drop};
-ghost use Rattle.ruleformat.specs.Bytes.{number, two};
-
-// The number of two bytes from `at` on.
-pub(crate) fn read_u16(bytes: &[u8], at: usize) -> u16
-    requires { ⌜ at + 2 ≤ length (now bytes) ⌝ }
-    ensures { λ r. ⌜ r ≡ two (now (bytes .entry)) at ⌝ }
-{
-    bytes[at] as u16 + 256 * bytes[at + 1] as u16
-}
+ghost use Rattle.ruleformat.specs.Bytes.{number};
 
 // The number of eight bytes from `at` on.
 pub(crate) fn read_u64(bytes: &[u8], at: usize) -> u64

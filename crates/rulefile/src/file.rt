@@ -1,8 +1,8 @@
 // What an accepted rule file holds.
 ghost use mathlib.Core.Path.{_≡_};
 ghost use Rattle.std.specs.Of.Vec.{vec-items};
-use crate::clauses::ClauseSheet;
-use crate::table::TableSheet;
+use sheets::ClauseSheet;
+use sheets::TableSheet;
 use assignment::Assignment;
 use entries::Draft;
 

@@ -2,8 +2,8 @@
 ghost use mathlib.Core.Path.{_≡_};
 ghost use Prim.Native.Nat.{_+_, _<_, _≤_};
 ghost use Rattle.std.specs.Of.Vec.{vec-cap, vec-len};
-use crate::clauses::ClauseSheet;
-use crate::table::TableSheet;
+use sheets::ClauseSheet;
+use sheets::TableSheet;
 use assignment::Assignment;
 use entries::Draft;
 use entries::EntrySpace;

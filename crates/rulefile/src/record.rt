@@ -2,10 +2,10 @@
 ghost use mathlib.Core.Path.{_≡_};
 ghost use Prim.Native.Nat.{_+_};
 ghost use lib.ListN.{length};
-ghost use Rattle.refusals.specs.Checks.{judged};
+ghost use Rattle.refusals.specs.Checks.{judged, seen};
 ghost use Rattle.ruleformat.specs.Kinds.{out-of-turn};
 ghost use Rattle.ruleformat.specs.Records.{head-checks, one-too-many};
-ghost use Rattle.rulefile.specs.Views.{seen, show, whole};
+ghost use Rattle.rulefile.specs.Views.{show, whole};
 use refusals::RecordFault;
 use refusals::Refusal;
 

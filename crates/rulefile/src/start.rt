@@ -1,8 +1,8 @@
 // The start record: how many options there are, and what is known of them from the outset.
 ghost use mathlib.Core.Path.{_≡_};
-ghost use Rattle.refusals.specs.Checks.{judged};
+ghost use Rattle.refusals.specs.Checks.{judged, seen};
 ghost use Rattle.ruleformat.specs.Starts.{start-checks};
-ghost use Rattle.rulefile.specs.Views.{seen, start-view, start-in};
+ghost use Rattle.rulefile.specs.Views.{start-view, start-in};
 use crate::bytes::read_u64;
 use assignment::Assignment;
 use assignment::has_bit_from;

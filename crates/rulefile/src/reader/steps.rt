@@ -7,7 +7,7 @@ ghost use lib.Dec.{eqb};
 ghost use lib.ListN.{drop, length};
 ghost use Rattle.std.specs.Results.{Cases};
 ghost use Rattle.std.specs.Vec.{made};
-ghost use Rattle.refusals.specs.Checks.{First, judged, when};
+ghost use Rattle.refusals.specs.Checks.{First, judged, seen, when};
 ghost use Rattle.refusals.specs.declared.fault.FileFault.the-variants.{Record as in-record};
 ghost use Rattle.refusals.specs.declared.refusal.Refusal.the-variants.{Unfinished};
 ghost use Rattle.ruleformat.specs.Contents.{nothing};
@@ -16,7 +16,7 @@ ghost use Rattle.ruleformat.specs.Reading.{body-checks, checks, reading, record
 ghost use Rattle.ruleformat.specs.Records.{at, body as body-of, kind as kind-of, record-size};
 ghost use Rattle.ruleformat.specs.WellFormed.{WellFormed};
 ghost use Rattle.rulefile.specs.Held.{Kept, Paired, Ready, contents-of, held, summed};
-ghost use Rattle.rulefile.specs.Views.{seen, show};
+ghost use Rattle.rulefile.specs.Views.{show};
 use super::Reader;
 use crate::file::RuleFile;
 use crate::record::Before;

@@ -9,7 +9,7 @@ use Rattle.refusals.specs.declared.fault.FileFault.the-variants.{Sheet}
 use Rattle.refusals.proofs.Judged.{judged-value, judged-within-err, judged-within-ok}
 use Rattle.ruleformat.specs.Clauses.{clauses-checks, clauses-of}
 use Rattle.rulefile.specs.Held.{held}
-use Rattle.rulefile.specs.Views.{clause-body}
+use Rattle.sheets.specs.Views.{clause-body}
 use Rattle.rulefile.proofs.Parts.{set-clauses}
 use Rattle.rulefile.proofs.reader.Reader.keep_clauses.Needs as need
 

@@ -9,7 +9,7 @@ use Rattle.refusals.specs.declared.fault.FileFault.the-variants.{Sheet}
 use Rattle.refusals.proofs.Judged.{judged-value, judged-within-err, judged-within-ok}
 use Rattle.ruleformat.specs.Tables.{table-checks, table-of}
 use Rattle.rulefile.specs.Held.{held}
-use Rattle.rulefile.specs.Views.{table-body}
+use Rattle.sheets.specs.Views.{table-body}
 use Rattle.rulefile.proofs.Parts.{set-tables}
 use Rattle.rulefile.proofs.reader.Reader.keep_table.Needs as need
 

@@ -9,7 +9,8 @@ use Rattle.entries.specs.declared.entry.Entry.{Entry}
 use Rattle.ruleformat.specs.Clauses.{clauses-of}
 use Rattle.ruleformat.specs.Contents.{Contents, Table, Wanted, nothing}
 use Rattle.ruleformat.specs.Tables.{table-of}
-use Rattle.rulefile.specs.Views.{clause-body, drafted, table-body}
+use Rattle.rulefile.specs.Views.{drafted}
+use Rattle.sheets.specs.Views.{clause-body, table-body}
 use Rattle.rulefile.proofs.reader.Reader.new.Needs as need
 
 abbrev parts : ℕ → ℕ → List Table → List (List (List Wanted)) → List (List Entry) → Contents

@@ -9,7 +9,7 @@ use lib.ListN.{getD}
 use Rattle.std.specs.Results.{Cases}
 use Rattle.std.specs.declared.result.Result.{Result}
 use Rattle.std.specs.declared.result.Result.the-variants.{Ok, Err}
-use Rattle.refusals.specs.Checks.{First}
+use Rattle.refusals.specs.Checks.{First, seen}
 use Rattle.refusals.specs.declared.fault.FileFault.{FileFault}
 use Rattle.ruleformat.specs.Encoding.{encode}
 use Rattle.ruleformat.specs.Laws.{Byte}
@@ -18,7 +18,6 @@ use Rattle.ruleformat.specs.WellFormed.{Each, WellFormed}
 use Rattle.ruleformat.proofs.Accepted.{accepted-is-encoded}
 use Rattle.ruleformat.proofs.Refused.{refused-by-first}
 use Rattle.rulefile.specs.Held.{contents-of}
-use Rattle.rulefile.specs.Views.{seen}
 use Rattle.rulefile.specs.declared.file.RuleFile.{RuleFile}
 use Rattle.rulefile.proofs.reader.steps.read.Needs as need
 

@@ -1,7 +1,0 @@
--- The columns end where their number says.
-use lib.ListN.{getD}
-use Rattle.rulefile.proofs.Ends.{front}
-use Rattle.rulefile.proofs.table.TableSheet.columns.Needs as need
-
-pub returns : need.returns
-returns c = let body = c .args .self .now .body .now in front body (getD body 0 0) (c .min .result) (c .min .ensures)

@@ -1,0 +1,26 @@
+-- The first wanted value, and those that follow it.
+use mathlib.Core.Path.{_≡_, sym, ap}
+use mathlib.Core.List.{map}
+use Prim.Native.Nat.{_<_}
+use native.Mathlib.Omega.{arith}
+use borrow.Author.Needs.{needs}
+use lib.ListN.{length}
+use Rattle.std.proofs.shelf.Lists.{nil-from-length}
+use Rattle.std.proofs.shelf.Parts.{first-rest}
+use Rattle.std.proofs.shelf.Tests.{eqb-false, eqb-true}
+use Rattle.ruleformat.specs.Clauses.{wanted-of}
+use Rattle.sheets.proofs.walk.ClauseIterator.next.Needs as need
+
+pub returns-then-is-empty : need.returns-then-is-empty
+returns-then-is-empty c =
+    let rest = c .args .self .now .rest .now in
+    record {
+      steps = ap (map wanted-of) (nil-from-length rest (eqb-true (length rest) 0 (sym (c .if-is-empty .ensures tt))));
+      goes = search needs
+    }
+
+pub returns : need.returns
+returns c =
+    let rest = c .args .self .now .rest .now in
+    let some : 0 < length rest = omega (arith, eqb-false (length rest) 0 (sym (c .if-is-empty .ensures tt))) in
+    record { steps = ap (map wanted-of) (first-rest rest 0 some); goes = search needs }
