@@ -19,11 +19,12 @@ use Rattle.ruleformat.specs.Laws.{Accepted-is-encoded, Byte}
 use Rattle.ruleformat.specs.Reading.{body-checks, checks, checks-from, contents, held-from, record-checks, with-record}
 use Rattle.ruleformat.specs.Records.{body, body-size, head-checks, kind, one-too-many, record-size, records}
 use Rattle.ruleformat.specs.WellFormed.{Each, WellFormed}
-use Rattle.ruleformat.proofs.Checked.{Passed, passed-ok, passed-within}
-use Rattle.ruleformat.proofs.Decoded.{record-encoded}
-use Rattle.ruleformat.proofs.Each.{each-take, each-drop, each-parts}
-use Rattle.ruleformat.proofs.Held.{Held, known-kind, one-more, started}
+use Rattle.ruleformat.proofs.Each.{each-drop, each-take}
+use Rattle.ruleformat.proofs.Held.{Held, one-more, started}
+use Rattle.ruleformat.proofs.Passing.{Passing, accepted-passes, passing-parts, passing-unwrapped}
 use Rattle.ruleformat.proofs.Pieces.{pieces-more}
+use Rattle.ruleformat.proofs.Records.{record-encoded}
+use Rattle.ruleformat.proofs.Turns.{known-kind}
 
 -- what the checks say of the first record that is left, and of those after it
 record Leading (total k : ℕ) (c : Contents) (rest : List ℕ) : Type 0 where
@@ -32,24 +33,24 @@ record Leading (total k : ℕ) (c : Contents) (rest : List ℕ) : Type 0 where
   turn : out-of-turn k (kind rest) ≡ false
   room : one-too-many (sheets c) (length (c .folders)) (kind rest) ≡ false
   uncut : record-size rest ≤ length rest
-  fits : Passed (body-checks (kind rest) (total - length rest) (body rest) c)
-  more : Passed (checks-from total (kind rest) (with-record (kind rest) (body rest) c) (records (drop (record-size rest) rest)))
+  fits : Passing (body-checks (kind rest) (total - length rest) (body rest) c)
+  more : Passing (checks-from total (kind rest) (with-record (kind rest) (body rest) c) (records (drop (record-size rest) rest)))
 
 cut-off : (rest : List ℕ) → 0 < length rest → records rest ≡ rest ∷ records (drop (record-size rest) rest)
 cut-off rest l = pieces-more record-size rest l (omega arith)
 
-first : (total k : ℕ) (c : Contents) (rest : List ℕ) → 0 < length rest → Passed (checks-from total k c (records rest)) → Leading total k c rest
+first : (total k : ℕ) (c : Contents) (rest : List ℕ) → 0 < length rest → Passing (checks-from total k c (records rest)) → Leading total k c rest
 first total k c rest l h =
     let next : Contents = with-record (kind rest) (body rest) c in
     let place : ℕ = total - length rest in
     let heads = head-checks k (sheets c) (length (c .folders)) place rest in
-    let all : Passed (checks-from total k c (rest ∷ records (drop (record-size rest) rest))) =
-      subst (λ rs. Passed (checks-from total k c rs)) (cut-off rest l) h in
+    let all : Passing (checks-from total k c (rest ∷ records (drop (record-size rest) rest))) =
+    subst (λ rs. Passing (checks-from total k c rs)) (cut-off rest l) h in
     let p =
-      each-parts (λ x. x .holds ≡ false) (record-checks k place rest c)
-      (checks-from total (kind rest) next (records (drop (record-size rest) rest))) all in
-    let q = each-parts (λ x. x .holds ≡ false) (within Record heads) (body-checks (kind rest) place (body rest) c) (p .0) in
-    let t = passed-within Record heads (q .0) in
+    passing-parts (record-checks k place rest c)
+    (checks-from total (kind rest) next (records (drop (record-size rest) rest))) all in
+    let q = passing-parts (within Record heads) (body-checks (kind rest) place (body rest) c) (p .0) in
+    let t = passing-unwrapped Record heads (q .0) in
     record {
       headed = ltb-false (length rest) 4 (t .0);
       known = t .1 .0;
@@ -57,7 +58,7 @@ first total k c rest l h =
       room = t .1 .1 .1 .0;
       uncut = ltb-false (length rest) (record-size rest) (t .1 .1 .1 .1 .0);
       fits = q .1;
-      more = p .1
+      more = p .1;
     }
 
 -- c is all that the file holds
@@ -68,21 +69,21 @@ finished : (c : Contents) (before : List ℕ) → Held 5 c before → Finished c
 finished c before h =
     let w = h .wholly refl in
     let fit : length before ≤ 32768 → WellFormed c =
-      λ l.
-        record {
-          some-option = h .some-option;
-          few-options = h .few-options;
-          yes-within = h .yes-within;
-          no-within = h .no-within;
-          consistent = h .consistent;
-          few-sheets = h .few-sheets;
-          tables-fit = h .tables-fit;
-          clauses-fit = h .clauses-fit;
-          few-folders = h .few-folders;
-          folders-fit = h .folders-fit;
-          asked-known = w .0;
-          short = subst (λ bs. length bs ≤ 32768) (sym (w .1)) l
-        } in
+    λ l.
+    record {
+      some-option = h .start-fit .some-option;
+      few-options = h .start-fit .few-options;
+      yes-within = h .start-fit .yes-within;
+      no-within = h .start-fit .no-within;
+      consistent = h .start-fit .consistent;
+      few-sheets = h .few-sheets;
+      tables-fit = h .tables-fit;
+      clauses-fit = h .clauses-fit;
+      few-folders = h .few-folders;
+      folders-fit = h .folders-fit;
+      asked-known = w .0;
+      short = subst (λ bs. length bs ≤ 32768) (sym (w .1)) l;
+    } in
     (fit, w .1)
 
 -- a record and what follows it
@@ -96,7 +97,7 @@ body-bytes : (rest : List ℕ) → Each Byte rest → Each Byte (body rest)
 body-bytes rest h = each-take Byte (body-size rest) (drop 4 rest) (each-drop Byte 4 rest h)
 
 -- m bounds the bytes that are left
-walk : (m total k : ℕ) (c : Contents) (before rest : List ℕ) → length rest ≤ m → 1 ≤ k → Each Byte rest → Held k c before → Passed (checks-from total k c (records rest)) → Finished (held-from c (records rest)) (before ++ rest)
+walk : (m total k : ℕ) (c : Contents) (before rest : List ℕ) → length rest ≤ m → 1 ≤ k → Each Byte rest → Held k c before → Passing (checks-from total k c (records rest)) → Finished (held-from c (records rest)) (before ++ rest)
 walk m total k c before [] l some bytes held h =
     let e : k ≡ 5 = eqb-true k 5 (not-false (eqb k 5) (h .0)) in
     subst (Finished c) (sym (append-nil before)) (finished c before (subst (λ j. Held j c before) e held))
@@ -108,11 +109,11 @@ walk (suc m) total k c before (x ∷ xs) l some bytes held h =
     let left : List ℕ = drop (record-size rest) rest in
     let s : length left ≤ m = omega (arith, length-drop (record-size rest) rest) in
     let r =
-      walk m total (kind rest) (with-record (kind rest) (body rest) c) (before ++ encode-record (kind rest) (body rest)) left s
-      (known-kind (kind rest) (f .known) .0) (each-drop Byte (record-size rest) rest bytes) now (f .more) in
+    walk m total (kind rest) (with-record (kind rest) (body rest) c) (before ++ encode-record (kind rest) (body rest)) left s
+    (known-kind (kind rest) (f .known) .0) (each-drop Byte (record-size rest) rest bytes) now (f .more) in
     rw (cut-off rest (omega arith)) (subst (Finished (held-from c (rest ∷ records left))) (rejoined before rest bytes (f .headed) (f .uncut)) r)
 
-whole-file : (total : ℕ) (file : List ℕ) → Each Byte file → Passed (checks-from total 0 nothing (records file)) → Finished (held-from nothing (records file)) file
+whole-file : (total : ℕ) (file : List ℕ) → Each Byte file → Passing (checks-from total 0 nothing (records file)) → Finished (held-from nothing (records file)) file
 whole-file total [] bytes h = absurd (true≢false (h .0))
 whole-file total (x ∷ xs) bytes h =
     let rest : List ℕ = x ∷ xs in
@@ -121,13 +122,13 @@ whole-file total (x ∷ xs) bytes h =
     let now = started (kind rest) (total - length rest) (body rest) (body-bytes rest bytes) one (f .fits) in
     let left : List ℕ = drop (record-size rest) rest in
     let r =
-      walk (length left) total (kind rest) (with-record (kind rest) (body rest) nothing) (encode-record (kind rest) (body rest)) left
-      (omega arith) (known-kind (kind rest) (f .known) .0) (each-drop Byte (record-size rest) rest bytes) now (f .more) in
+    walk (length left) total (kind rest) (with-record (kind rest) (body rest) nothing) (encode-record (kind rest) (body rest)) left
+    (omega arith) (known-kind (kind rest) (f .known) .0) (each-drop Byte (record-size rest) rest bytes) now (f .more) in
     rw (cut-off rest (omega arith)) (subst (Finished (held-from nothing (rest ∷ records left))) (rejoined [] rest bytes (f .headed) (f .uncut)) r)
 
 pub accepted-is-encoded : Accepted-is-encoded
 accepted-is-encoded file c bytes h =
-    let p = passed-ok (checks file) (contents file) c h in
+    let p = accepted-passes (checks file) (contents file) c h in
     let e : c ≡ contents file = judged-value (checks file) (contents file) c h in
     let w = whole-file (length file) file bytes (p .1) in
     let l = ltb-false 32768 (length file) (p .0) in

@@ -1,21 +1,20 @@
 -- The encoding of well-formed contents is a list of bytes.
 use mathlib.Core.List.{List, [], _∷_, _++_}
-use Prim.Native.Nat.{ℕ, zero, suc, _-_, _<_, _≤_}
+use Prim.Native.Nat.{ℕ, _<_, _≤_}
 use native.Mathlib.Omega.{arith}
-use lib.Dec.{eqb}
-use lib.ListN.{length, getD}
-use Rattle.std.proofs.shelf.Tests.{cond-both}
+use lib.ListN.{length}
 use Rattle.entries.specs.declared.entry.Entry.{Entry}
-use Rattle.ruleformat.proofs.Encoded.{bytes-each}
-use Rattle.ruleformat.proofs.EncodedClauses.{encode-sheet, sheet-bytes}
-use Rattle.ruleformat.proofs.EncodedFolder.{encode-entries, folder-bytes}
-use Rattle.ruleformat.proofs.EncodedStart.{start-body, start-bytes}
-use Rattle.ruleformat.proofs.EncodedTable.{table-bytes}
-use Rattle.ruleformat.proofs.Passing.{each-append, each-joined, each-map}
-use Rattle.ruleformat.specs.Contents.{Contents, rules, sheets}
-use Rattle.ruleformat.specs.Encoding.{bytes-of, encode, encode-clauses, encode-folders, encode-record, encode-start, encode-table, encode-tables}
+use Rattle.ruleformat.specs.Contents.{Contents, sheets}
+use Rattle.ruleformat.specs.Encoding.{bytes-of, encode, encode-clauses, encode-entries, encode-folders, encode-record, encode-sheet, encode-start, encode-table, encode-tables, start-body}
 use Rattle.ruleformat.specs.Laws.{Byte}
 use Rattle.ruleformat.specs.WellFormed.{ClausesFit, Each, FoldersFit, TableFits, WellFormed}
+use Rattle.ruleformat.proofs.Each.{each-append, each-joined, each-map}
+use Rattle.ruleformat.proofs.EncodedClauses.{sheet-bytes}
+use Rattle.ruleformat.proofs.EncodedFolder.{folder-bytes}
+use Rattle.ruleformat.proofs.EncodedStart.{start-bytes}
+use Rattle.ruleformat.proofs.EncodedTable.{table-bytes}
+use Rattle.ruleformat.proofs.Numbers.{bytes-each}
+use Rattle.ruleformat.proofs.Rules.{top-few}
 
 record-bytes : (k : ℕ) (b : List ℕ) → Each Byte b → Each Byte (encode-record k b)
 record-bytes k b h =
@@ -29,19 +28,7 @@ folders-bytes n below (f ∷ fs) few low h =
     (record-bytes 4 (encode-entries f) (folder-bytes n below few f (h .0) low))
     (folders-bytes n (length f) fs few (h .0 .few-entries) (h .1))
 
--- no folder has more than 32 entries
-folder-few : (n below : ℕ) (fs : List (List Entry)) (i : ℕ) → FoldersFit n below fs → length (getD fs i []) ≤ 32
-folder-few n below [] i h = omega arith
-folder-few n below (f ∷ fs) zero h = h .0 .few-entries
-folder-few n below (f ∷ fs) (suc i) h = folder-few n (length f) fs i (h .1)
-
 module _ (c : Contents) (fine : WellFormed c) where
-  rules-few : rules c ≤ 32
-  rules-few =
-      let last = length (c .folders) - 1 in
-      cond-both (eqb (length (c .folders)) 0) (sheets c) (length (getD (c .folders) last [])) (λ x. x ≤ 32) (λ e. fine .few-sheets)
-      (λ e. folder-few (c .options) (sheets c) (c .folders) last (fine .folders-fit))
-
   tables-bytes : Each Byte (encode-tables (c .tables))
   tables-bytes =
       each-joined Byte (λ t. encode-record 2 (encode-table t)) (c .tables)
@@ -59,7 +46,7 @@ module _ (c : Contents) (fine : WellFormed c) where
       let question = encode-record 5 (c .asked ∷ []) in
       let after-clauses = encode-folders (c .folders) ++ question in
       let after-tables = encode-clauses (c .clauses) ++ after-clauses in
-      let asked-small : c .asked < 256 = omega (arith, rules-few, fine .asked-known) in
+      let asked-small : c .asked < 256 = omega (arith, top-few (c .options) (sheets c) (c .folders) (fine .few-sheets) (fine .folders-fit), fine .asked-known) in
       each-append Byte (encode-start c) (encode-tables (c .tables) ++ after-tables) (record-bytes 1 (start-body c) (start-bytes c fine))
       (each-append Byte (encode-tables (c .tables)) after-tables tables-bytes
       (each-append Byte (encode-clauses (c .clauses)) after-clauses clauses-bytes

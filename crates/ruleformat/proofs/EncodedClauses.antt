@@ -6,17 +6,17 @@ use Prim.Native.Nat.{ℕ, suc, _+_, _*_, _/_, _%_, _<_, _≤_}
 use native.Mathlib.Omega.{arith}
 use lib.Dec.{eqb, leb, ltb}
 use lib.ListN.{length, length-append, length-map}
-use Rattle.std.specs.Joined.{joined}
 use Rattle.std.proofs.shelf.Lists.{take-at}
 use Rattle.std.proofs.shelf.Tests.{le-leb, le-ltb, lt-leb, ne-eqb, or-from}
 use Rattle.std.proofs.shelf.Ways.{tells}
-use Rattle.ruleformat.proofs.Encoded.{pieces-joined}
-use Rattle.ruleformat.proofs.Passing.{Passing, each-joined, each-map, passing-append}
 use Rattle.ruleformat.specs.Clauses.{any-unfit, clause-checks, clause-of, clause-pieces, clause-size, clauses-checks, clauses-of, option-of, wanted-bytes, wanted-checks, wanted-of}
 use Rattle.ruleformat.specs.Contents.{Wanted}
-use Rattle.ruleformat.specs.Encoding.{encode-clause, encode-wanted}
+use Rattle.ruleformat.specs.Encoding.{encode-clause, encode-sheet, encode-wanted}
 use Rattle.ruleformat.specs.Laws.{Byte}
 use Rattle.ruleformat.specs.WellFormed.{ClauseFits, ClausesFit, Each, Rising, option}
+use Rattle.ruleformat.proofs.Each.{each-joined, each-map}
+use Rattle.ruleformat.proofs.Passing.{Passing, passing-append}
+use Rattle.ruleformat.proofs.Pieces.{pieces-joined}
 
 -- the byte of an option o below 64 that is wanted no where g
 module _ (o : ℕ) (small : o < 64) where
@@ -28,9 +28,9 @@ module _ (o : ℕ) (small : o < 64) where
   negated-read true = le-leb 128 (128 + o) (omega arith)
   negated-read false = lt-leb 128 o (omega arith)
 
-  six-clear : (g : Bool) → eqb (cond g (128 + o) o / 64 % 2) 1 ≡ false
-  six-clear true = ne-eqb ((128 + o) / 64 % 2) 1 (λ e. omega arith)
-  six-clear false = ne-eqb (o / 64 % 2) 1 (λ e. omega arith)
+  six-clear : (g : Bool) → eqb ((cond g (128 + o) o / 64) % 2) 1 ≡ false
+  six-clear true = ne-eqb (((128 + o) / 64) % 2) 1 (λ e. omega arith)
+  six-clear false = ne-eqb ((o / 64) % 2) 1 (λ e. omega arith)
 
   wanted-byte : (g : Bool) → cond g (128 + o) o < 256
   wanted-byte true = omega arith
@@ -42,9 +42,6 @@ wanted-read w h = λ i. record { option = option-read (w .option) h (w .negated)
 abbrev encode-values : List Wanted → List ℕ
 encode-values ws = map encode-wanted ws
 
-abbrev pub encode-sheet : List (List Wanted) → List ℕ
-encode-sheet cs = joined encode-clause cs
-
 first-clause : (ws : List Wanted) (tail : List ℕ) → clause-pieces (encode-clause ws ++ tail) ≡ (encode-clause ws ++ tail) ∷ clause-pieces tail
 first-clause ws tail = pieces-joined clause-size (encode-clause ws) tail (omega arith) (omega (arith, length-map ws encode-wanted))
 
@@ -55,7 +52,7 @@ values-are ws tail = take-at (encode-values ws) tail (length ws) (length-map ws 
 shape-fits : (k l : ℕ) → 1 ≤ k → k ≤ 16 → 1 + k ≤ l → (eqb k 0 || (ltb 16 k || ltb l (1 + k))) ≡ false
 shape-fits k l some few long = grind (arith, tells)
 
-pub sheet-count : (cs : List (List Wanted)) → length (clause-pieces (encode-sheet cs)) ≡ length cs
+sheet-count : (cs : List (List Wanted)) → length (clause-pieces (encode-sheet cs)) ≡ length cs
 sheet-count [] = refl
 sheet-count (ws ∷ cs) = ap length (first-clause ws (encode-sheet cs)) ∙ ap suc (sheet-count cs)
 
@@ -68,16 +65,10 @@ module _ (n : ℕ) (few : n ≤ 64) where
   values-pass place i low [] h = tt
   values-pass place i low (w ∷ ws) h =
       let small : w .option < 64 = omega arith in
-      let same : w .option ≡ option-of (encode-wanted w) = sym (option-read (w .option) small (w .negated)) in (
-        six-clear (w .option) small (w .negated),
-        (
-          lt-leb n (option-of (encode-wanted w)) (omega (arith, same)),
-          (
-            le-ltb (option-of (encode-wanted w)) low (omega (arith, same)),
-            subst (λ o. Passing (wanted-checks n place i (o + 1) (encode-values ws))) same (values-pass place i (w .option + 1) ws (h .2)),
-          ),
-        ),
-      )
+      let o : ℕ = option-of (encode-wanted w) in
+      let same : w .option ≡ o = sym (option-read (w .option) small (w .negated)) in
+      let more = subst (λ p. Passing (wanted-checks n place i (p + 1) (encode-values ws))) same (values-pass place i (w .option + 1) ws (h .2)) in
+      (six-clear (w .option) small (w .negated), (lt-leb n o (omega (arith, same)), (le-ltb o low (omega (arith, same)), more)))
 
   values-bytes : (low : ℕ) (ws : List Wanted) → Rising n low (map option ws) → Each Byte (encode-values ws)
   values-bytes low [] h = tt

@@ -8,7 +8,6 @@ use lib.Count.{ones}
 use lib.Dec.{eqb, ltb}
 use lib.ListN.{length}
 use lib.Pow.{pow-mono}
-use Rattle.std.specs.Joined.{joined}
 use Rattle.std.proofs.shelf.Tests.{le-ltb, lt-leb}
 use Rattle.std.proofs.shelf.Ways.{tells}
 use Rattle.refusals.specs.Checks.{within}
@@ -16,12 +15,14 @@ use Rattle.entries.specs.Fields.{entry-checks, entry-of}
 use Rattle.entries.specs.declared.entry.Entry.{Entry}
 use Rattle.entries.specs.declared.entry.Entry.the-variants as entry
 use Rattle.entries.specs.declared.fields.EntryFields.{EntryFields}
-use Rattle.ruleformat.proofs.Encoded.{bytes-each, number-of-bytes, pieces-joined}
-use Rattle.ruleformat.proofs.Passing.{Passing, each-joined, each-map, passing-append, passing-within}
-use Rattle.ruleformat.specs.Encoding.{encode-entry, encode-fields, fields-for}
+use Rattle.ruleformat.specs.Encoding.{encode-entries, encode-entry, encode-fields, fields-for}
 use Rattle.ruleformat.specs.Folders.{at-entry, entries-checks, entries-of, entry-in, entry-pieces, entry-size, fields-of, folder-checks}
 use Rattle.ruleformat.specs.Laws.{Byte}
 use Rattle.ruleformat.specs.WellFormed.{Each, EntryFits, FolderFits}
+use Rattle.ruleformat.proofs.Each.{each-joined, each-map}
+use Rattle.ruleformat.proofs.Numbers.{bytes-each, number-of-bytes}
+use Rattle.ruleformat.proofs.Passing.{Passing, passing-append, passing-within}
+use Rattle.ruleformat.proofs.Pieces.{pieces-joined}
 
 fields-read : (f : EntryFields) (tail : List ℕ) → f .word < 2 ^ 64 → fields-of (encode-fields f ++ tail) ≡ f
 fields-read f tail h =
@@ -29,9 +30,6 @@ fields-read f tail h =
 
 fields-bytes : (f : EntryFields) → (f .op < 256) × (f .first < 256) × (f .second < 256) × (f .third < 256) → Each Byte (encode-fields f)
 fields-bytes f h = (h .0, (h .1, (h .2, (h .3, bytes-each 8 (f .word)))))
-
-abbrev pub encode-entries : List Entry → List ℕ
-encode-entries es = joined encode-entry es
 
 pub folder-length : (es : List Entry) → length (encode-entries es) ≡ 12 * length es
 folder-length [] = refl

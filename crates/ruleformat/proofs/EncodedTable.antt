@@ -11,13 +11,15 @@ use Rattle.std.specs.Joined.{joined}
 use Rattle.std.proofs.shelf.Lists.{drop-at, take-at}
 use Rattle.std.proofs.shelf.Tests.{le-ltb, lt-leb}
 use Rattle.std.proofs.shelf.Ways.{tells}
-use Rattle.ruleformat.proofs.Encoded.{bytes-each, pieces-joined, two-of-bytes}
-use Rattle.ruleformat.proofs.Passing.{Passing, each-append, each-joined, each-map, passing-append}
 use Rattle.ruleformat.specs.Contents.{Table}
 use Rattle.ruleformat.specs.Encoding.{bytes-of, encode-table}
 use Rattle.ruleformat.specs.Laws.{Byte}
 use Rattle.ruleformat.specs.Tables.{column-checks, columns-of, row-checks, row-of, row-size, rows-in, rows-of, table-checks, table-of, unfit-table}
 use Rattle.ruleformat.specs.WellFormed.{Each, Rising, TableFits}
+use Rattle.ruleformat.proofs.Each.{each-append, each-joined, each-map}
+use Rattle.ruleformat.proofs.Numbers.{bytes-each, two-of-bytes}
+use Rattle.ruleformat.proofs.Passing.{Passing, passing-append}
+use Rattle.ruleformat.proofs.Pieces.{pieces-joined}
 
 abbrev encode-rows : List ℕ → List ℕ
 encode-rows rs = joined (bytes-of 2) rs
@@ -40,7 +42,7 @@ rows-pass : (w place i : ℕ) (rs : List ℕ) → Each (λ r. r < 2 ^ w) rs → 
 rows-pass w place i [] h = tt
 rows-pass w place i (r ∷ rs) h = (lt-leb (2 ^ w) r (h .0), rows-pass w place (i + 1) rs (h .1))
 
-pub rising-below : (n low : ℕ) (xs : List ℕ) → Rising n low xs → Each (λ x. x < n) xs
+rising-below : (n low : ℕ) (xs : List ℕ) → Rising n low xs → Each (λ x. x < n) xs
 rising-below n low [] h = tt
 rising-below n low (x ∷ xs) h = (h .1, rising-below n (x + 1) xs (h .2))
 

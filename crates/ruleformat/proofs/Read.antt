@@ -1,47 +1,36 @@
 -- The encoding of well-formed contents reads back as those contents: the walk over its records.
 use mathlib.Core.Path.{_≡_, refl, sym, ap, subst, _∙_}
-use mathlib.Core.Bool.{false}
 use mathlib.Core.List.{List, [], _∷_, _++_, append-assoc, append-nil}
-use Prim.Native.Nat.{ℕ, _+_, _-_, _<_, _≤_}
+use Prim.Native.Nat.{ℕ, _+_, _<_, _≤_}
 use native.Mathlib.Omega.{arith}
-use lib.Dec.{eqb}
-use lib.ListN.{length, getD}
+use lib.ListN.{length}
 use Rattle.std.specs.declared.result.Result.the-variants.{Ok}
-use Rattle.std.proofs.shelf.Lists.{getD-push, length-push}
-use Rattle.std.proofs.shelf.Tests.{cond-false, le-ltb, lt-leb, ne-eqb}
-use Rattle.std.proofs.shelf.Ways.{tells}
+use Rattle.std.proofs.shelf.Lists.{length-push}
+use Rattle.std.proofs.shelf.Tests.{le-ltb, lt-leb}
 use Rattle.refusals.specs.Checks.{within}
 use Rattle.refusals.specs.declared.fault.FileFault.the-variants.{Sheet, Folder}
 use Rattle.entries.specs.declared.entry.Entry.{Entry}
-use Rattle.ruleformat.proofs.EncodedBytes.{encode-bytes}
-use Rattle.ruleformat.proofs.EncodedClauses.{encode-sheet, sheet-length, sheet-passes, sheet-read}
-use Rattle.ruleformat.proofs.EncodedFolder.{encode-entries, folder-length, folder-passes, folder-read}
-use Rattle.ruleformat.proofs.EncodedStart.{so-far, start-body, start-passes, start-read}
-use Rattle.ruleformat.proofs.EncodedTable.{table-length, table-passes, table-read}
-use Rattle.ruleformat.proofs.Passing.{Passing, passing-accepts, passing-within}
-use Rattle.ruleformat.proofs.Walk.{Fits, Reads, reads-record}
 use Rattle.ruleformat.specs.Clauses.{clauses-checks}
 use Rattle.ruleformat.specs.Contents.{Contents, Table, Wanted, nothing, rules, sheets}
-use Rattle.ruleformat.specs.Encoding.{encode, encode-clauses, encode-folders, encode-record, encode-table, encode-tables}
+use Rattle.ruleformat.specs.Encoding.{encode, encode-clauses, encode-entries, encode-folders, encode-record, encode-sheet, encode-table, encode-tables, start-body}
 use Rattle.ruleformat.specs.Folders.{folder-checks}
-use Rattle.ruleformat.specs.Kinds.{out-of-turn}
 use Rattle.ruleformat.specs.Laws.{Encoded-is-accepted}
 use Rattle.ruleformat.specs.Reading.{checks, contents}
 use Rattle.ruleformat.specs.Tables.{table-checks}
 use Rattle.ruleformat.specs.WellFormed.{ClausesFit, Each, FoldersFit, TableFits, WellFormed}
-
--- no kind goes down, and none follows a question
-turn : (before k : ℕ) → 1 ≤ before → before ≤ 4 → 2 ≤ k → before ≤ k → out-of-turn before k ≡ false
-turn before k some few later up = grind (arith, tells)
+use Rattle.ruleformat.proofs.EncodedBytes.{encode-bytes}
+use Rattle.ruleformat.proofs.EncodedClauses.{sheet-length, sheet-passes, sheet-read}
+use Rattle.ruleformat.proofs.EncodedFolder.{folder-length, folder-passes, folder-read}
+use Rattle.ruleformat.proofs.EncodedStart.{so-far, start-passes, start-read}
+use Rattle.ruleformat.proofs.EncodedTable.{table-length, table-passes, table-read}
+use Rattle.ruleformat.proofs.Passing.{Passing, passing-accepts, passing-within}
+use Rattle.ruleformat.proofs.Rules.{rules-top, top-push}
+use Rattle.ruleformat.proofs.Turns.{may-follow}
+use Rattle.ruleformat.proofs.Walk.{Fits, Reads, reads-record}
 
 -- the rules that come next are the last folder's entries
 rules-push : (c : Contents) (ts : List Table) (cs : List (List (List Wanted))) (fs : List (List Entry)) (f : List Entry) → rules (so-far c ts cs (fs ++ f ∷ [])) ≡ length f
-rules-push c ts cs fs f =
-    let e = length-push fs f in
-    let at-last : length fs ≡ length (fs ++ f ∷ []) - 1 = omega (arith, e) in
-    cond-false (eqb (length (fs ++ f ∷ [])) 0) (length ts + length cs) (length (getD (fs ++ f ∷ []) (length (fs ++ f ∷ []) - 1) []))
-    (ne-eqb (length (fs ++ f ∷ [])) 0 (λ z. omega (arith, e)))
-    ∙ ap length (getD-push fs f [] (length (fs ++ f ∷ []) - 1) at-last)
+rules-push c ts cs fs f = rules-top (so-far c ts cs (fs ++ f ∷ [])) ∙ top-push (length ts + length cs) fs f
 
 module _ (total : ℕ) (c : Contents) (few : c .options ≤ 64) where
   reads-tables : (before : ℕ) (done ts : List Table) (tail : List ℕ) → 1 ≤ before → before ≤ 2 → length done + length ts ≤ 32 → Each (TableFits (c .options)) ts → ((k : ℕ) → 1 ≤ k → k ≤ 2 → Reads total k (so-far c (done ++ ts) [] []) tail c) → Reads total before (so-far c done [] []) (encode-tables ts ++ tail) c
@@ -54,9 +43,8 @@ module _ (total : ℕ) (c : Contents) (few : c .options ≤ 64) where
       let fits : Fits before now 2 b =
       record {
         short = omega (arith, table-length n t (h .0), h .0 .few-columns, h .0 .few-rows);
-        small = omega arith;
         known = refl;
-        in-turn = turn before 2 lo (omega arith) (omega arith) hi;
+        in-turn = may-follow before 2 lo (omega arith) (omega arith) hi;
         room = lt-leb 32 (sheets now) (omega arith);
         body-passes = λ place. passing-within Sheet (table-checks n place b) (table-passes n t (h .0) place);
       } in
@@ -76,9 +64,8 @@ module _ (total : ℕ) (c : Contents) (few : c .options ≤ 64) where
       let fits : Fits before now 3 b =
       record {
         short = omega (arith, sheet-length n few s (h .0));
-        small = omega arith;
         known = refl;
-        in-turn = turn before 3 lo (omega arith) (omega arith) hi;
+        in-turn = may-follow before 3 lo (omega arith) (omega arith) hi;
         room = lt-leb 32 (sheets now) (omega arith);
         body-passes = λ place. passing-within Sheet (clauses-checks n place b) (sheet-passes n few s (h .0) place);
       } in
@@ -99,9 +86,8 @@ module _ (total : ℕ) (c : Contents) (few : c .options ≤ 64) where
       let fits : Fits before now 4 b =
       record {
         short = omega (arith, folder-length f, h .0 .few-entries);
-        small = omega arith;
         known = refl;
-        in-turn = turn before 4 lo hi (omega arith) hi;
+        in-turn = may-follow before 4 lo hi (omega arith) hi;
         room = lt-leb 4 (length done) (omega arith);
         body-passes =
             λ place.
@@ -123,9 +109,8 @@ module _ (total : ℕ) (c : Contents) (few : c .options ≤ 64) where
       let fits : Fits before now 5 b =
       record {
         short = omega arith;
-        small = omega arith;
         known = refl;
-        in-turn = turn before 5 lo hi (omega arith) (omega arith);
+        in-turn = may-follow before 5 lo hi (omega arith) (omega arith);
         room = refl;
         body-passes = λ place. (refl, (lt-leb (rules c) (c .asked) known, tt));
       } in
@@ -141,7 +126,6 @@ reads-encoding total c fine =
     let fits : Fits 0 nothing 1 (start-body c) =
     record {
       short = omega arith;
-      small = omega arith;
       known = refl;
       in-turn = refl;
       room = refl;
@@ -154,7 +138,7 @@ reads-encoding total c fine =
     reads-clauses total c few k [] (c .clauses) after-clauses low (omega arith) (omega (arith, fine .few-sheets)) (fine .clauses-fit)
     (λ j lower higher.
     reads-folders total c few j (sheets c) [] (c .folders) question lower (omega arith) (omega (arith, fine .few-folders)) refl
-    (fine .folders-fit) (λ i lowest highest. reads-question total c few i lowest highest (fine .asked-known))))))
+    (fine .folders-fit) (λ i lowest highest. reads-question total c few i lowest highest (subst (λ m. c .asked < m) (sym (rules-top c)) (fine .asked-known)))))))
 
 pub encoded-is-accepted : Encoded-is-accepted
 encoded-is-accepted c fine =

@@ -30,7 +30,7 @@ abbrev pub option-of : ℕ → ℕ
 option-of b = b % 64
 
 abbrev pub bit-six : ℕ → Bool
-bit-six b = eqb (b / 64 % 2) 1
+bit-six b = eqb ((b / 64) % 2) 1
 
 abbrev pub wanted-of : ℕ → Wanted
 wanted-of b = record { option = option-of b; negated = leb 128 b }
@@ -78,5 +78,5 @@ with-clauses body c =
       tables = c .tables;
       clauses = c .clauses ++ clauses-of body ∷ [];
       folders = c .folders;
-      asked = c .asked
+      asked = c .asked;
     }

@@ -1,4 +1,5 @@
--- The bytes that stand for contents.
+-- The bytes that stand for contents. Numbers of several bytes are cut to their low bytes, and those of one byte are put as
+-- they are, so an encoding is meant for well-formed contents only.
 use Prim.Native.Nat.{ℕ, zero, suc, _+_, _/_, _%_}
 use mathlib.Core.Bool.{cond}
 use mathlib.Core.List.{List, [], _∷_, _++_, map}
@@ -26,6 +27,9 @@ encode-wanted w = cond (w .negated) (128 + w .option) (w .option)
 abbrev pub encode-clause : List Wanted → List ℕ
 encode-clause ws = length ws ∷ map encode-wanted ws
 
+abbrev pub encode-sheet : List (List Wanted) → List ℕ
+encode-sheet cs = joined encode-clause cs
+
 abbrev pub fields-for : Entry → EntryFields
 fields-for (entry.Carry r) = record { op = 0; first = r; second = 0; third = 0; word = 0 }
 fields-for (entry.Product a b) = record { op = 1; first = a; second = b; third = 0; word = 0 }
@@ -41,20 +45,26 @@ encode-fields f = f .op ∷ f .first ∷ f .second ∷ f .third ∷ bytes-of 8 (
 abbrev pub encode-entry : Entry → List ℕ
 encode-entry e = encode-fields (fields-for e)
 
+abbrev pub encode-entries : List Entry → List ℕ
+encode-entries es = joined encode-entry es
+
+abbrev pub start-body : Contents → List ℕ
+start-body c = c .options ∷ (bytes-of 8 (c .start-yes) ++ bytes-of 8 (c .start-no))
+
 abbrev pub encode-start : Contents → List ℕ
-encode-start c = encode-record 1 (c .options ∷ (bytes-of 8 (c .start-yes) ++ bytes-of 8 (c .start-no)))
+encode-start c = encode-record 1 (start-body c)
 
 abbrev pub encode-tables : List Table → List ℕ
 encode-tables ts = joined (λ t. encode-record 2 (encode-table t)) ts
 
 abbrev pub encode-clauses : List (List (List Wanted)) → List ℕ
-encode-clauses ss = joined (λ cs. encode-record 3 (joined encode-clause cs)) ss
+encode-clauses ss = joined (λ cs. encode-record 3 (encode-sheet cs)) ss
 
 abbrev pub encode-folders : List (List Entry) → List ℕ
-encode-folders fs = joined (λ es. encode-record 4 (joined encode-entry es)) fs
+encode-folders fs = joined (λ es. encode-record 4 (encode-entries es)) fs
 
 abbrev pub encode : Contents → List ℕ
 encode c =
     encode-start c
     ++ (encode-tables (c .tables)
-        ++ (encode-clauses (c .clauses) ++ (encode-folders (c .folders) ++ encode-record 5 (c .asked ∷ []))))
+    ++ (encode-clauses (c .clauses) ++ (encode-folders (c .folders) ++ encode-record 5 (c .asked ∷ []))))

@@ -23,7 +23,7 @@ fields-of rest =
       first = getD rest 1 0;
       second = getD rest 2 0;
       third = getD rest 3 0;
-      word = number (take 8 (drop 4 rest))
+      word = number (take 8 (drop 4 rest));
     }
 
 abbrev pub entry-size : List ℕ → ℕ
@@ -64,5 +64,5 @@ with-folder body c =
       tables = c .tables;
       clauses = c .clauses;
       folders = c .folders ++ entries-of body ∷ [];
-      asked = c .asked
+      asked = c .asked;
     }

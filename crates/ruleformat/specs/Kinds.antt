@@ -3,10 +3,11 @@ use Prim.Native.Nat.{ℕ}
 use mathlib.Core.Bool.{Bool, cond, not, _||_}
 use lib.Dec.{eqb, ltb}
 
+-- what is none of the first four counts as a question; the check of the kind rules any other out before
 abbrev pub by-kind : {A : Type 0} → ℕ → (start table clauses folder question : A) → A
 by-kind k s t c f q = cond (eqb k 1) s (cond (eqb k 2) t (cond (eqb k 3) c (cond (eqb k 4) f q)))
 
--- neither of the five
+-- none of the five
 abbrev pub unknown : ℕ → Bool
 unknown k = eqb k 0 || ltb 5 k
 

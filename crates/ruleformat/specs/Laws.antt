@@ -1,4 +1,4 @@
--- The two laws of reading: what is accepted, and what is refused.
+-- The three laws of reading: what is accepted is encoded, what is encoded is accepted, and what refuses a file.
 use Prim.Native.Nat.{ℕ, _<_}
 use mathlib.Core.List.{List}
 use mathlib.Core.Path.{_≡_}

@@ -7,6 +7,7 @@ pub mod Kinds
 pub mod Laws
 pub mod Reading
 pub mod Records
+pub mod Sample
 pub mod Starts
 pub mod Tables
 pub mod WellFormed

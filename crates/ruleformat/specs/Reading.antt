@@ -31,7 +31,7 @@ with-question body c =
       tables = c .tables;
       clauses = c .clauses;
       folders = c .folders;
-      asked = getD body 0 0
+      asked = getD body 0 0;
     }
 
 -- what the records so far hold, and one record more
@@ -52,7 +52,8 @@ record-checks before place rest c =
     ++ body-checks (kind rest) place (body rest) c
 
 -- The checks of the records that are left, in a file of `total` bytes, after a record of the kind before and records
--- that hold c. A record's place is the number of bytes before it.
+-- that hold c. A record's place is the number of bytes before it. Checks after the first that holds never decide, so it
+-- makes no difference what they find in a file that is refused before them.
 abbrev pub checks-from : (total before : ℕ) → Contents → List (List ℕ) → List (Check FileFault)
 checks-from total before c [] = when (not (eqb before 5)) (Record (at Unfinished total)) ∷ []
 checks-from total before c (rest ∷ rests) =

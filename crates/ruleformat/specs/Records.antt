@@ -1,8 +1,8 @@
 -- The records of a file, and the checks of a record's head in their order. A record is given by the bytes from its first on.
 use Prim.Native.Nat.{ℕ, _+_}
-use mathlib.Core.Bool.{Bool, false, cond}
+use mathlib.Core.Bool.{Bool, false}
 use mathlib.Core.List.{List, [], _∷_}
-use lib.Dec.{eqb, leb, ltb}
+use lib.Dec.{leb, ltb}
 use lib.ListN.{length, take, drop}
 use Rattle.refusals.specs.Checks.{Check, when}
 use Rattle.refusals.specs.declared.fault.RecordFault.{RecordFault}

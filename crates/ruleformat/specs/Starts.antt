@@ -39,5 +39,5 @@ with-start body c =
       tables = c .tables;
       clauses = c .clauses;
       folders = c .folders;
-      asked = c .asked
+      asked = c .asked;
     }

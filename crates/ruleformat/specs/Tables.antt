@@ -1,5 +1,5 @@
 -- A table sheet's record: the number of columns, the columns, then rows of two bytes.
-use Prim.Native.Nat.{ℕ, _+_, _-_, _*_, _^_, _%_}
+use Prim.Native.Nat.{ℕ, _+_, _-_, _^_, _%_}
 use mathlib.Core.Bool.{Bool, _||_}
 use mathlib.Core.List.{List, [], _∷_, _++_, map}
 use lib.Dec.{eqb, leb, ltb}
@@ -38,8 +38,8 @@ abbrev pub unfit-table : List ℕ → Bool
 unfit-table body =
     eqb (width body) 0
     || (ltb 16 (width body)
-        || (ltb (length body) (1 + width body)
-            || (eqb ((length body - (1 + width body)) % 2) 1 || ltb 512 (length body - (1 + width body)))))
+    || (ltb (length body) (1 + width body)
+    || (eqb ((length body - (1 + width body)) % 2) 1 || ltb 512 (length body - (1 + width body)))))
 
 -- columns from the one with number i on; the least that may come next is `low`
 abbrev pub column-checks : (n place i low : ℕ) → List ℕ → List (Check SheetFault)
@@ -67,5 +67,5 @@ with-table body c =
       tables = c .tables ++ table-of body ∷ [];
       clauses = c .clauses;
       folders = c .folders;
-      asked = c .asked
+      asked = c .asked;
     }

@@ -8,7 +8,7 @@ use lib.Count.{ones}
 use lib.ListN.{length}
 use Rattle.entries.specs.declared.entry.Entry.{Entry}
 use Rattle.entries.specs.declared.entry.Entry.the-variants as entry
-use Rattle.ruleformat.specs.Contents.{Contents, Table, Wanted, sheets, rules}
+use Rattle.ruleformat.specs.Contents.{Contents, Table, Wanted}
 use Rattle.ruleformat.specs.Encoding.{encode}
 
 -- what holds of each element of a list
@@ -65,16 +65,21 @@ abbrev pub FoldersFit : (n below : ℕ) → List (List Entry) → Type 0
 FoldersFit n below [] = Unit {0}
 FoldersFit n below (f ∷ fs) = FolderFits n below f × FoldersFit n (length f) fs
 
+-- how many rules the topmost folder has, or the sheets where there is no folder
+abbrev pub top : ℕ → List (List Entry) → ℕ
+top below [] = below
+top below (f ∷ fs) = top (length f) fs
+
 pub record WellFormed (c : Contents) : Type 0 where
   pub some-option : 1 ≤ c .options
   pub few-options : c .options ≤ 64
   pub yes-within : c .start-yes < 2 ^ c .options
   pub no-within : c .start-no < 2 ^ c .options
   pub consistent : bitAnd (c .start-yes) (c .start-no) ≡ 0
-  pub few-sheets : sheets c ≤ 32
+  pub few-sheets : length (c .tables) + length (c .clauses) ≤ 32
   pub tables-fit : Each (TableFits (c .options)) (c .tables)
   pub clauses-fit : Each (ClausesFit (c .options)) (c .clauses)
   pub few-folders : length (c .folders) ≤ 4
-  pub folders-fit : FoldersFit (c .options) (sheets c) (c .folders)
-  pub asked-known : c .asked < rules c
+  pub folders-fit : FoldersFit (c .options) (length (c .tables) + length (c .clauses)) (c .folders)
+  pub asked-known : c .asked < top (length (c .tables) + length (c .clauses)) (c .folders)
   pub short : length (encode c) ≤ 32768

@@ -9,35 +9,30 @@ use lib.Dec.{eqb, ltb}
 use lib.ListN.{length, take, drop}
 use Rattle.std.specs.Joined.{joined}
 use Rattle.std.proofs.shelf.Lists.{drop-drop, length-drop, length-map, length-take-le, take-append-drop}
-use Rattle.std.proofs.shelf.Tests.{eqb-false, leb-false, ltb-false, or-parts}
+use Rattle.std.proofs.shelf.Tests.{leb-false, ltb-false}
+use Rattle.std.proofs.shelf.Ways.{tells}
 use Rattle.ruleformat.specs.Bytes.{pieces}
 use Rattle.ruleformat.specs.Encoding.{bytes-of, encode-table}
 use Rattle.ruleformat.specs.Laws.{Byte}
 use Rattle.ruleformat.specs.Tables.{column-checks, columns-of, row-checks, row-of, row-size, rows-in, rows-of, table-checks, table-of, width}
 use Rattle.ruleformat.specs.WellFormed.{Each, Rising, TableFits}
-use Rattle.ruleformat.proofs.Checked.{Passed}
-use Rattle.ruleformat.proofs.Decoded.{Kept, even-pieces, pieces-encoded, pieces-keep, two-encoded}
-use Rattle.ruleformat.proofs.Each.{each-drop, each-parts}
+use Rattle.ruleformat.proofs.Each.{each-drop}
+use Rattle.ruleformat.proofs.Numbers.{two-encoded}
+use Rattle.ruleformat.proofs.Passing.{Passing, passing-parts}
+use Rattle.ruleformat.proofs.Pieces.{Kept, even-pieces, pieces-encoded, pieces-keep}
 
-columns-rise : (n place i low : ℕ) (cs : List ℕ) → Passed (column-checks n place i low cs) → Rising n low cs
+columns-rise : (n place i low : ℕ) (cs : List ℕ) → Passing (column-checks n place i low cs) → Rising n low cs
 columns-rise n place i low [] h = tt
 columns-rise n place i low (c ∷ cs) h =
     (ltb-false c low (h .1 .0), leb-false n c (h .0), columns-rise n place (i + 1) (c + 1) cs (h .1 .1))
 
-rows-within : (w place i : ℕ) (rs : List ℕ) → Passed (row-checks w place i rs) → Each (λ r. r < 2 ^ w) rs
+rows-within : (w place i : ℕ) (rs : List ℕ) → Passing (row-checks w place i rs) → Each (λ r. r < 2 ^ w) rs
 rows-within w place i [] h = tt
 rows-within w place i (r ∷ rs) h = (leb-false (2 ^ w) r (h .0), rows-within w place (i + 1) rs (h .1))
 
 -- a body of l bytes with w columns
 fit-sizes : (w l : ℕ) → (eqb w 0 || (ltb 16 w || (ltb l (1 + w) || (eqb ((l - (1 + w)) % 2) 1 || ltb 512 (l - (1 + w)))))) ≡ false → (1 ≤ w) × (w ≤ 16) × (1 + w ≤ l) × ((l - (1 + w)) % 2 ≡ 0) × (l - (1 + w) ≤ 512)
-fit-sizes w l h =
-    let a = or-parts (eqb w 0) (ltb 16 w || (ltb l (1 + w) || (eqb ((l - (1 + w)) % 2) 1 || ltb 512 (l - (1 + w))))) h in
-    let b = or-parts (ltb 16 w) (ltb l (1 + w) || (eqb ((l - (1 + w)) % 2) 1 || ltb 512 (l - (1 + w)))) (a .1) in
-    let c = or-parts (ltb l (1 + w)) (eqb ((l - (1 + w)) % 2) 1 || ltb 512 (l - (1 + w))) (b .1) in
-    let d = or-parts (eqb ((l - (1 + w)) % 2) 1) (ltb 512 (l - (1 + w))) (c .1) in
-    let p = eqb-false w 0 (a .0) in
-    let q = eqb-false ((l - (1 + w)) % 2) 1 (d .0) in
-    (omega arith, ltb-false 16 w (b .0), ltb-false l (1 + w) (c .0), omega arith, ltb-false 512 (l - (1 + w)) (d .1))
+fit-sizes w l h = (grind (arith, tells), grind (arith, tells), grind (arith, tells), grind (arith, tells), grind (arith, tells))
 
 row-kept : (rest : List ℕ) → Each Byte rest → 2 ≤ length rest → Kept row-size row-of (bytes-of 2) rest
 row-kept [] h l = absurd (not-suc-le-zero l)
@@ -72,20 +67,21 @@ table-encoded (w ∷ bs) l e =
 columns-count : (body : List ℕ) → 1 + width body ≤ length body → length (columns-of body) ≡ width body
 columns-count body l = length-take-le (width body) (drop 1 body) (omega (arith, length-drop 1 body))
 
-pub table-read : (n place : ℕ) (body : List ℕ) → Each Byte body → Passed (table-checks n place body) → TableFits n (table-of body) × (encode-table (table-of body) ≡ body)
-table-read n place body bytes h =
+pub table-fits : (n place : ℕ) (body : List ℕ) → Each Byte body → Passing (table-checks n place body) → TableFits n (table-of body) × (encode-table (table-of body) ≡ body)
+table-fits n place body bytes h =
     let s = fit-sizes (width body) (length body) (h .0) in
-    let p = each-parts (λ c. c .holds ≡ false) (column-checks n place 0 0 (columns-of body)) (row-checks (width body) place 0 (rows-of body)) (h .1) in
+    let p = passing-parts (column-checks n place 0 0 (columns-of body)) (row-checks (width body) place 0 (rows-of body)) (h .1) in
     let left : List ℕ = drop (1 + width body) body in
     let l : length left ≡ length body - (1 + width body) = length-drop (1 + width body) body in
     let m : length left % 2 ≡ 0 = omega (arith, s .3) in
     let k = columns-count body (s .2) in
-    let r = rows-count left (each-drop Byte (1 + width body) body bytes) m in
-    (record {
-       some-column = omega arith;
-       few-columns = omega arith;
-       rising = columns-rise n place 0 0 (columns-of body) (p .0);
-       few-rows = omega arith;
-       in-columns = rw k (rows-within (width body) place 0 (rows-of body) (p .1))
-     },
-     table-encoded body (s .2) (rows-encoded left (each-drop Byte (1 + width body) body bytes) m))
+    let r = rows-count left (each-drop Byte (1 + width body) body bytes) m in (
+      record {
+        some-column = omega arith;
+        few-columns = omega arith;
+        rising = columns-rise n place 0 0 (columns-of body) (p .0);
+        few-rows = omega arith;
+        in-columns = rw k (rows-within (width body) place 0 (rows-of body) (p .1));
+      },
+      table-encoded body (s .2) (rows-encoded left (each-drop Byte (1 + width body) body bytes) m),
+    )
