@@ -21,5 +21,11 @@ pub fn has_bit_from(mask: u64, first: u32) -> bool
     if first >= 64 {
         return false;
     }
-    mask >> first != 0
+    is_at_least(mask, 1 << first)
+}
+
+fn is_at_least(mask: u64, bound: u64) -> bool
+    ensures { λ r. ⌜ r ≡ leb bound mask ⌝ }
+{
+    mask >= bound
 }

@@ -11,7 +11,8 @@ use Rattle.entries.specs.declared.entry.Entry.{Entry}
 use Rattle.entries.specs.declared.entry.Entry.the-variants as entry
 use Rattle.entries.specs.declared.fields.EntryFields.{EntryFields}
 
--- the codes of the ops: 0 carry, 1 product, 2 either, 3 selection, 4 projection, 5 complement, 6 none
+-- the codes of the ops: 0 carry, 1 product, 2 either, 3 selection, 4 projection, 5 complement, 6 none;
+-- what is above counts as none, which the check of the op rules out before
 abbrev pub by-op : {A : Type 0} → ℕ → (carry product either selection projection complement none : A) → A
 by-op op c p e s j m n =
     cond (eqb op 0) c (cond (eqb op 1) p (cond (eqb op 2) e (cond (eqb op 3) s (cond (eqb op 4) j (cond (eqb op 5) m n)))))
@@ -23,23 +24,24 @@ entry-of f =
     (entry.Selection (f .first) (f .second) (f .third) (f .word % 256)) (entry.Projection (f .first) (f .word))
     (entry.Complement (f .first)) entry.None
 
-abbrev set-to : ℕ → Bool
-set-to x = ltb 0 x
+-- a field is not 0
+abbrev is-set : ℕ → Bool
+is-set x = ltb 0 x
 
 -- a field is set that the op does not use
-abbrev pub unused : EntryFields → Bool
-unused f =
-    let all-but-first : Bool = set-to (f .second) || (set-to (f .third) || set-to (f .word)) in
-    let last-two : Bool = set-to (f .third) || set-to (f .word) in
-    by-op (f .op) all-but-first last-two last-two false (set-to (f .second) || set-to (f .third)) all-but-first
-    (set-to (f .first) || all-but-first)
+abbrev pub sets-unused : EntryFields → Bool
+sets-unused f =
+    let all-but-first : Bool = is-set (f .second) || (is-set (f .third) || is-set (f .word)) in
+    let last-two : Bool = is-set (f .third) || is-set (f .word) in
+    by-op (f .op) all-but-first last-two last-two false (is-set (f .second) || is-set (f .third)) all-but-first
+    (is-set (f .first) || all-but-first)
 
 -- a rule is named at or above the count below
 abbrev pub unknown-rule : ℕ → EntryFields → Bool
 unknown-rule below f =
-    let one : Bool = leb below (f .first) in
-    let two : Bool = leb below (f .first) || leb below (f .second) in
-    by-op (f .op) one two two one one one false
+    let first-unknown : Bool = leb below (f .first) in
+    let either-unknown : Bool = leb below (f .first) || leb below (f .second) in
+    by-op (f .op) first-unknown either-unknown either-unknown first-unknown first-unknown first-unknown false
 
 -- a selection's width is not 1 to 32
 abbrev pub bad-width : EntryFields → Bool
@@ -64,6 +66,6 @@ hides-many f = by-op (f .op) false false false false (ltb 16 (ones (f .word))) f
 -- n options, over a count of rules below
 abbrev pub entry-checks : ℕ → ℕ → EntryFields → List (Check Refusal)
 entry-checks n below f =
-    when (ltb 6 (f .op)) OutOfRange ∷ when (unused f) OutOfRange ∷ when (unknown-rule below f) NoSuchRule
+    when (ltb 6 (f .op)) OutOfRange ∷ when (sets-unused f) OutOfRange ∷ when (unknown-rule below f) NoSuchRule
     ∷ when (bad-width f) OutOfRange ∷ when (beyond n f) BeyondOptions ∷ when (overlap f) Conflict
     ∷ when (hides-many f) TooManyHidden ∷ []

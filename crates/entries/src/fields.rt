@@ -1,20 +1,27 @@
 // The five fields of an entry as a rule file has them, and the tests on them.
 ghost use mathlib.Core.Path.{_≡_};
-ghost use Rattle.entries.specs.Fields.{entry-of, unused, unknown-rule, bad-width, beyond, overlap, hides-many, entry-checks};
+ghost use Rattle.entries.specs.Fields.{entry-of, sets-unused, unknown-rule, bad-width, beyond, overlap, hides-many, entry-checks};
 ghost use Rattle.refusals.specs.Checks.{judged};
-use assignment::has_bit_from;
 use crate::entry::Entry;
+use assignment::has_bit_from;
 use refusals::Refusal;
 
 const CARRY: u8 = 0;
+
 const PRODUCT: u8 = 1;
+
 const EITHER: u8 = 2;
+
 const SELECTION: u8 = 3;
+
 const PROJECTION: u8 = 4;
+
 const COMPLEMENT: u8 = 5;
+
 const NONE: u8 = 6;
 
 const MAX_WIDTH: u64 = 32;
+
 const MAX_HIDDEN: u32 = 16;
 
 /// What the fields mean depends on `op`; a field that an op does not use is 0.
@@ -59,7 +66,7 @@ impl EntryFields {
 
     // Whether a field is set that the op does not use.
     fn sets_unused(self) -> bool
-        ensures { λ r. ⌜ r ≡ unused self ⌝ }
+        ensures { λ r. ⌜ r ≡ sets-unused self ⌝ }
     {
         match self.op {
             CARRY | COMPLEMENT => self.second != 0 || self.third != 0 || self.word != 0,
@@ -131,13 +138,27 @@ impl EntryFields {
     fn to_entry(self) -> Entry
         ensures { λ r. ⌜ r ≡ entry-of self ⌝ }
     {
-        let EntryFields { op, first, second, third, word } = self;
+        let EntryFields {
+            op,
+            first,
+            second,
+            third,
+            word,
+        } = self;
         match op {
             CARRY => Entry::Carry { rule: first },
             PRODUCT => Entry::Product { first, second },
             EITHER => Entry::Either { first, second },
-            SELECTION => Entry::Selection { rule: first, left: second, right: third, width: (word % 256) as u8 },
-            PROJECTION => Entry::Projection { rule: first, hidden: word },
+            SELECTION => Entry::Selection {
+                rule: first,
+                left: second,
+                right: third,
+                width: (word % 256) as u8,
+            },
+            PROJECTION => Entry::Projection {
+                rule: first,
+                hidden: word,
+            },
             COMPLEMENT => Entry::Complement { rule: first },
             _ => Entry::None,
         }

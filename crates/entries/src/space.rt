@@ -1,7 +1,8 @@
 // Memory for the entries of one folder, reserved before it is filled.
+ghost use mathlib.Core.List.{[]};
 ghost use mathlib.Core.Path.{_≡_};
 ghost use Prim.Native.Nat.{_≤_};
-ghost use Rattle.std.specs.Of.Vec.{vec-len, vec-cap};
+ghost use Rattle.std.specs.Of.Vec.{vec-cap, vec-items, vec-len};
 use crate::entry::Entry;
 use std::alloc::AllocError;
 use std::alloc::Global;
@@ -13,7 +14,7 @@ pub const MAX_ENTRIES: usize = 32;
 #[derive(Drop)]
 pub struct EntrySpace {
     pub(crate) entries: Vec<Entry>,
-    ghost empty: { vec-len entries ≡ 0 },
+    ghost empty: { (vec-items entries ≡ []) × (vec-len entries ≡ 0) },
     ghost room: { 32 ≤ vec-cap entries },
 }
 

@@ -18,14 +18,22 @@ pub struct RecordFault {
 #[derive(Clone, Copy)]
 pub enum SheetFault {
     Record(RecordFault),
-    Item { refusal: Refusal, place: usize, item: usize },
+    Item {
+        refusal: Refusal,
+        place: usize,
+        item: usize,
+    },
 }
 
 /// A fault of a folder: of its record, or of the entry that `item` counts from 0.
 #[derive(Clone, Copy)]
 pub enum FolderFault {
     Record(RecordFault),
-    Entry { refusal: Refusal, place: usize, item: usize },
+    Entry {
+        refusal: Refusal,
+        place: usize,
+        item: usize,
+    },
 }
 
 /// A fault of a rule file, with the fault of the layer below whole.

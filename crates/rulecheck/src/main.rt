@@ -1,7 +1,7 @@
 // Reads the rule file RULES and says what it holds, or where and why it is bad.
+use refusals::FileFault;
 use rulefile::Space;
 use rulefile::read;
-use refusals::FileFault;
 use std::io;
 use std::io::BufWriter;
 use std::io::Write;

@@ -109,11 +109,12 @@ module _ (r : Reader) (place : ℕ) (rest : List ℕ) (x : Shown) (h : judged (h
       length-take-le (body-size rest) (drop 4 rest) (omega (arith, length-drop 4 rest, is-whole))
 
   pub is-ready : Ready r (kind rest)
-  is-ready =
-      (turn (r .kind) (kind rest) in-turn,
-       λ e. sheets-below 2 e (leb-false 32 (sheets (held r)) (room-at (sheets (held r)) (length (held r .folders)) (kind rest) 2 has-room e)),
-       λ e. sheets-below 3 e (leb-false 32 (sheets (held r)) (room-at (sheets (held r)) (length (held r .folders)) (kind rest) 3 has-room e)),
-       λ e. folders-below (leb-false 4 (length (held r .folders)) (room-at (sheets (held r)) (length (held r .folders)) (kind rest) 4 has-room e)))
+  is-ready = (
+    turn (r .kind) (kind rest) in-turn,
+    λ e. sheets-below 2 e (leb-false 32 (sheets (held r)) (room-at (sheets (held r)) (length (held r .folders)) (kind rest) 2 has-room e)),
+    λ e. sheets-below 3 e (leb-false 32 (sheets (held r)) (room-at (sheets (held r)) (length (held r .folders)) (kind rest) 3 has-room e)),
+    λ e. folders-below (leb-false 4 (length (held r .folders)) (room-at (sheets (held r)) (length (held r .folders)) (kind rest) 4 has-room e)),
+  )
     where
       sheets-below : (j : ℕ) → kind rest ≡ j → sheets (held r) < 32 → vec-len (r .tables) + vec-len (r .clauses) < 32
       sheets-below j e l = omega (arith, sheets-are r)

@@ -21,7 +21,7 @@ held r =
       tables = map (λ t. table-of (table-body t)) (vec-items (r .tables));
       clauses = map (λ s. clauses-of (clause-body s)) (vec-items (r .clauses));
       folders = map drafted (vec-items (r .folders));
-      asked = r .asked
+      asked = r .asked;
     }
 
 abbrev pub contents-of : RuleFile → Contents
@@ -33,7 +33,7 @@ contents-of f =
       tables = map (λ t. table-of (table-body t)) (vec-items (f .tables));
       clauses = map (λ s. clauses-of (clause-body s)) (vec-items (f .clauses));
       folders = map drafted (vec-items (f .folders));
-      asked = f .asked
+      asked = f .asked;
     }
 
 -- there is room for as many folders as may still come
@@ -59,5 +59,5 @@ summed r =
     record {
       kind = r .kind;
       sheets = vec-len (r .tables) + vec-len (r .clauses);
-      folders = vec-len (r .folders)
+      folders = vec-len (r .folders);
     }

@@ -1,10 +1,10 @@
 // What an accepted rule file holds.
 ghost use mathlib.Core.Path.{_≡_};
 ghost use Rattle.std.specs.Of.Vec.{vec-items};
-use sheets::ClauseSheet;
-use sheets::TableSheet;
 use assignment::Assignment;
 use entries::Draft;
+use sheets::ClauseSheet;
+use sheets::TableSheet;
 
 /// The sheets are the rules 0, 1, and so on: the tables first, then the clause sheets. Each folder's entries are
 /// rules over the folder before it, or over the sheets. The asked rule is one of the last folder, or of the sheets

@@ -19,10 +19,17 @@ use refusals::RecordFault;
 use refusals::Refusal;
 
 const ENTRY_SIZE: usize = 12;
+
 const MAX_ENTRY_BYTES: usize = 384;
 
 // The folder that a body holds, as a draft told the number of options and of the rules below, or why it is refused.
-pub(crate) fn read_folder(space: EntrySpace, body: &[u8], place: usize, options: u32, below: u32) -> Result<Draft, FolderFault>
+pub(crate) fn read_folder(
+    space: EntrySpace,
+    body: &[u8],
+    place: usize,
+    options: u32,
+    below: u32,
+) -> Result<Draft, FolderFault>
     requires { ⌜ (1 ≤ options) × (options ≤ 64) ⌝ }
     ensures { λ r. ⌜ seen drafted r ≡ judged (folder-checks options below place (now (body .entry))) (entries-of (now (body .entry))) ⌝ }
 {
@@ -37,7 +44,10 @@ fn check_shape(body: &[u8], place: usize) -> Result<(), RecordFault>
     ensures { λ r. ⌜ r ≡ judged (when (unfit-folder (now (body .entry))) (at Unfit place) ∷ []) tt ⌝ }
 {
     if body.is_empty() || body.len() > MAX_ENTRY_BYTES || body.len() % ENTRY_SIZE != 0 {
-        return Err(RecordFault { refusal: Refusal::Unfit, place });
+        return Err(RecordFault {
+            refusal: Refusal::Unfit,
+            place,
+        });
     }
     Ok(())
 }
@@ -54,7 +64,11 @@ fn add_entries(draft: &mut Draft, body: &[u8], place: usize) -> Result<(), Folde
     let mut item = 0;
     while rest.len() >= ENTRY_SIZE {
         if let Err(refusal) = draft.add(read_fields(rest)) {
-            return Err(FolderFault::Entry { refusal, place, item });
+            return Err(FolderFault::Entry {
+                refusal,
+                place,
+                item,
+            });
         }
         rest = &rest[ENTRY_SIZE..];
         item += 1;

@@ -2,11 +2,11 @@
 ghost use mathlib.Core.Path.{_≡_};
 ghost use Prim.Native.Nat.{_+_, _<_, _≤_};
 ghost use Rattle.std.specs.Of.Vec.{vec-cap, vec-len};
-use sheets::ClauseSheet;
-use sheets::TableSheet;
 use assignment::Assignment;
 use entries::Draft;
 use entries::EntrySpace;
+use sheets::ClauseSheet;
+use sheets::TableSheet;
 
 mod keep;
 mod steps;

@@ -10,7 +10,9 @@ use refusals::RecordFault;
 use refusals::Refusal;
 
 const HEAD: usize = 4;
+
 const MAX_SHEETS: usize = 32;
+
 const MAX_FOLDERS: usize = 4;
 
 /// A record by its kind, with the part of the file that is its body and the place of its first byte.
@@ -55,25 +57,44 @@ impl Before {
 }
 
 /// The record that begins at `place`, where `rest` is the file from there on, or why there is none.
-pub fn next_record<'a>(rest: &'a [u8], place: usize, before: Before) -> Result<Record<'a>, RecordFault>
+pub fn next_record<'a>(
+    rest: &'a [u8],
+    place: usize,
+    before: Before,
+) -> Result<Record<'a>, RecordFault>
     ensures { λ r. ⌜ seen show r ≡ judged (head-checks (before .kind) (before .sheets) (before .folders) place (now (rest .entry))) (whole place (now (rest .entry))) ⌝ }
 {
     if rest.len() < HEAD {
-        return Err(RecordFault { refusal: Refusal::Cut, place });
+        return Err(RecordFault {
+            refusal: Refusal::Cut,
+            place,
+        });
     }
     let size = rest[0] as usize + 256 * rest[1] as usize;
     let kind = rest[2] as usize + 256 * rest[3] as usize;
     if kind == 0 || kind > 5 {
-        return Err(RecordFault { refusal: Refusal::UnknownKind, place });
+        return Err(RecordFault {
+            refusal: Refusal::UnknownKind,
+            place,
+        });
     }
     if before.excludes(kind) {
-        return Err(RecordFault { refusal: Refusal::OutOfTurn, place });
+        return Err(RecordFault {
+            refusal: Refusal::OutOfTurn,
+            place,
+        });
     }
     if before.is_full_for(kind) {
-        return Err(RecordFault { refusal: Refusal::TooMany, place });
+        return Err(RecordFault {
+            refusal: Refusal::TooMany,
+            place,
+        });
     }
     if rest.len() < HEAD + size {
-        return Err(RecordFault { refusal: Refusal::Cut, place });
+        return Err(RecordFault {
+            refusal: Refusal::Cut,
+            place,
+        });
     }
     let body = &rest[HEAD..HEAD + size];
     match kind {

@@ -3,14 +3,15 @@ ghost use mathlib.Core.Path.{_≡_};
 ghost use Prim.Native.Nat.{_≤_};
 ghost use Rattle.std.specs.Of.Vec.{vec-cap, vec-len};
 ghost use Rattle.std.specs.Vec.{made};
-use sheets::ClauseSheet;
-use sheets::TableSheet;
 use entries::Draft;
 use entries::EntrySpace;
+use sheets::ClauseSheet;
+use sheets::TableSheet;
 use std::alloc::AllocError;
 use std::alloc::Global;
 
 const SHEETS: usize = 32;
+
 const FOLDERS: usize = 4;
 
 /// Room for the sheets and folders of the largest file.
@@ -31,7 +32,12 @@ impl<'a> Space<'a> {
         let clauses = Vec::with_capacity(heap, SHEETS)?;
         let folders = Vec::with_capacity(heap, FOLDERS)?;
         let spare = reserve_entries(heap)?;
-        Ok(Space { tables, clauses, folders, spare })
+        Ok(Space {
+            tables,
+            clauses,
+            folders,
+            spare,
+        })
     }
 }
 

@@ -16,6 +16,7 @@ use refusals::SheetFault;
 use refusals::SheetFromRecord;
 
 const MAX_WANTED: usize = 16;
+
 const MAX_CLAUSES: usize = 256;
 
 /// A clause sheet over the part of the file that is its body.
@@ -46,7 +47,10 @@ impl<'a> ClauseSheet<'a> {
 fn check_shape(body: &[u8], place: usize) -> Result<(), RecordFault>
     ensures { λ r. ⌜ r ≡ judged (when (unfit-clauses (now (body .entry))) (at Unfit place) ∷ []) tt ⌝ }
 {
-    let unfit = RecordFault { refusal: Refusal::Unfit, place };
+    let unfit = RecordFault {
+        refusal: Refusal::Unfit,
+        place,
+    };
     let mut rest = body;
     let mut clauses = 0usize;
     while !rest.is_empty() {
@@ -95,14 +99,26 @@ fn check_wanted(wanted: &[u8], place: usize, item: usize, options: u32) -> Resul
     let mut low = 0;
     for byte in wanted {
         if *byte / 64 % 2 == 1 {
-            return Err(SheetFault::Item { refusal: Refusal::OutOfRange, place, item });
+            return Err(SheetFault::Item {
+                refusal: Refusal::OutOfRange,
+                place,
+                item,
+            });
         }
         let option = (*byte % 64) as u32;
         if option >= options {
-            return Err(SheetFault::Item { refusal: Refusal::BeyondOptions, place, item });
+            return Err(SheetFault::Item {
+                refusal: Refusal::BeyondOptions,
+                place,
+                item,
+            });
         }
         if option < low {
-            return Err(SheetFault::Item { refusal: Refusal::Conflict, place, item });
+            return Err(SheetFault::Item {
+                refusal: Refusal::Conflict,
+                place,
+                item,
+            });
         }
         low = option + 1;
     }

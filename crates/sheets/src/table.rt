@@ -16,6 +16,7 @@ use refusals::SheetFault;
 use refusals::SheetFromRecord;
 
 const MAX_COLUMNS: usize = 16;
+
 const MAX_ROW_BYTES: usize = 512;
 
 /// A table sheet over the part of the file that is its body.
@@ -54,7 +55,9 @@ impl<'a> TableSheet<'a> {
         if body.is_empty() {
             return Rows { rest: body };
         }
-        Rows { rest: &body[body.len().min(1 + body[0] as usize)..] }
+        Rows {
+            rest: &body[body.len().min(1 + body[0] as usize)..],
+        }
     }
 }
 
@@ -62,7 +65,10 @@ impl<'a> TableSheet<'a> {
 fn count_columns(body: &[u8], place: usize) -> Result<usize, RecordFault>
     ensures { λ r. ⌜ r ≡ judged (when (unfit-table (now (body .entry))) (at Unfit place) ∷ []) (width-of (now (body .entry))) ⌝ }
 {
-    let unfit = RecordFault { refusal: Refusal::Unfit, place };
+    let unfit = RecordFault {
+        refusal: Refusal::Unfit,
+        place,
+    };
     if body.is_empty() {
         return Err(unfit);
     }
@@ -85,10 +91,18 @@ fn check_columns(columns: &[u8], place: usize, options: u32) -> Result<(), Sheet
     for (i, column) in columns.iter().enumerate() {
         let option = *column as u32;
         if option >= options {
-            return Err(SheetFault::Item { refusal: Refusal::BeyondOptions, place, item: i });
+            return Err(SheetFault::Item {
+                refusal: Refusal::BeyondOptions,
+                place,
+                item: i,
+            });
         }
         if option < low {
-            return Err(SheetFault::Item { refusal: Refusal::Conflict, place, item: i });
+            return Err(SheetFault::Item {
+                refusal: Refusal::Conflict,
+                place,
+                item: i,
+            });
         }
         low = option + 1;
     }
@@ -104,7 +118,11 @@ fn check_rows(rows: &[u8], columns: u32, place: usize) -> Result<(), SheetFault>
     let mut item = 0;
     while rest.len() >= 2 {
         if has_bit_from(rest[0] as u64 + 256 * rest[1] as u64, columns) {
-            return Err(SheetFault::Item { refusal: Refusal::OutOfRange, place, item });
+            return Err(SheetFault::Item {
+                refusal: Refusal::OutOfRange,
+                place,
+                item,
+            });
         }
         rest = &rest[2..];
         item += 1;

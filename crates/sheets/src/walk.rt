@@ -77,6 +77,18 @@ pub struct Wanted {
     pub negated: bool,
 }
 
+impl Wanted {
+    // Bits 0 to 5 are the option, and bit 7 is set where it is wanted no.
+    fn from_byte(byte: u8) -> Wanted
+        ensures { λ r. ⌜ wanted-view r ≡ wanted-of byte ⌝ }
+    {
+        Wanted {
+            option: (byte % 64) as u32,
+            negated: byte >= 128,
+        }
+    }
+}
+
 pub impl Iterator for Clause<'_> as ClauseIterator {
     type Item = Wanted;
 
@@ -93,6 +105,6 @@ pub impl Iterator for Clause<'_> as ClauseIterator {
         }
         let byte = rest[0];
         self.rest = &rest[1..];
-        Some(Wanted { option: (byte % 64) as u32, negated: byte >= 128 })
+        Some(Wanted::from_byte(byte))
     }
 }

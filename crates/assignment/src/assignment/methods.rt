@@ -36,7 +36,8 @@ impl Assignment {
     pub fn is_inconsistent(&self) -> bool
         ensures { λ r. ⌜ r ≡ not (eqb (bitAnd (now (self .entry) .yes) (now (self .entry) .no)) 0) ⌝ }
     {
-        self.yes & self.no != 0
+        let both = self.yes & self.no;
+        both != 0
     }
 
     /// What is known of an option; nothing is known of an option from 64 on.

@@ -22,7 +22,11 @@ impl Draft {
         ensures entries { λ r. ⌜ vec-items (r .entries) ≡ [] ⌝ }
     {
         let EntrySpace { entries } = space;
-        Draft { options, below, entries }
+        Draft {
+            options,
+            below,
+            entries,
+        }
     }
 
     /// Adds the entry that the fields stand for, or refuses it and stays as it was.

@@ -13,15 +13,15 @@ ghost use Rattle.ruleformat.specs.Starts.{start-checks, with-start};
 ghost use Rattle.ruleformat.specs.Tables.{table-checks, with-table};
 ghost use Rattle.rulefile.specs.Held.{Kept, Paired, held};
 use super::Reader;
-use sheets::ClauseSheet;
 use crate::folder::read_folder;
 use crate::start::read_start;
-use sheets::TableSheet;
 use refusals::FileFault;
 use refusals::FileFromFolder;
 use refusals::FileFromSheet;
 use refusals::RecordFault;
 use refusals::Refusal;
+use sheets::ClauseSheet;
+use sheets::TableSheet;
 
 impl<'a> Reader<'a> {
     // The number of options and what is known of them from the outset.
@@ -91,11 +91,17 @@ impl<'a> Reader<'a> {
         ensures kept { λ r. ⌜ made r (λ _. Kept 5 (with-question (now (body .entry)) (held (now (self .entry)))) (now (self .exit))) ⌝ }
     {
         if body.len() != 1 {
-            return Err(FileFault::Record(RecordFault { refusal: Refusal::Unfit, place }));
+            return Err(FileFault::Record(RecordFault {
+                refusal: Refusal::Unfit,
+                place,
+            }));
         }
         let asked = body[0];
         if asked as u32 >= self.rules() {
-            return Err(FileFault::Question { refusal: Refusal::NoSuchRule, place });
+            return Err(FileFault::Question {
+                refusal: Refusal::NoSuchRule,
+                place,
+            });
         }
         self.asked = asked;
         self.kind = 5;

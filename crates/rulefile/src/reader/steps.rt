@@ -30,6 +30,7 @@ use refusals::RecordFault;
 use refusals::Refusal;
 
 const MAX_FILE: usize = 32768;
+
 const QUESTION: usize = 5;
 
 /// Reads a rule file into room that was reserved: what it holds, or the fault of the first check that refuses it.
@@ -45,7 +46,10 @@ fn read_records<'a>(space: Space<'a>, bytes: &'a [u8]) -> Result<RuleFile<'a>, F
     ensures { λ r. ⌜ seen contents-of r ≡ reading (now (bytes .entry)) ⌝ }
 {
     if bytes.len() > MAX_FILE {
-        return Err(FileFault::Record(RecordFault { refusal: Refusal::TooLong, place: 0 }));
+        return Err(FileFault::Record(RecordFault {
+            refusal: Refusal::TooLong,
+            place: 0,
+        }));
     }
     let mut reader = Reader::new(space);
     let mut rest = bytes;
@@ -60,8 +64,22 @@ impl<'a> Reader<'a> {
     fn new(space: Space<'a>) -> Reader<'a>
         ensures { λ r. ⌜ Kept 0 nothing r ⌝ }
     {
-        let Space { tables, clauses, folders, spare } = space;
-        Reader { kind: 0, options: 0, start: Assignment::new(0, 0), tables, clauses, folders, asked: 0, spare }
+        let Space {
+            tables,
+            clauses,
+            folders,
+            spare,
+        } = space;
+        Reader {
+            kind: 0,
+            options: 0,
+            start: Assignment::new(0, 0),
+            tables,
+            clauses,
+            folders,
+            asked: 0,
+            spare,
+        }
     }
 
     // Reads the record that begins `rest`, and gives what follows it.
@@ -79,7 +97,11 @@ impl<'a> Reader<'a> {
     fn before(&self) -> Before
         ensures { λ r. ⌜ r ≡ summed (now (self .entry)) ⌝ }
     {
-        Before { kind: self.kind, sheets: self.tables.len() + self.clauses.len(), folders: self.folders.len() }
+        Before {
+            kind: self.kind,
+            sheets: self.tables.len() + self.clauses.len(),
+            folders: self.folders.len(),
+        }
     }
 
     // Keeps what a record holds.
@@ -103,9 +125,28 @@ impl<'a> Reader<'a> {
         ensures { λ r. ⌜ seen contents-of r ≡ judged (when (not (eqb (self .entry .kind) 5)) (in-record (at Unfinished total)) ∷ []) (held (self .entry)) ⌝ }
     {
         if self.kind != QUESTION {
-            return Err(FileFault::Record(RecordFault { refusal: Refusal::Unfinished, place: total }));
+            return Err(FileFault::Record(RecordFault {
+                refusal: Refusal::Unfinished,
+                place: total,
+            }));
         }
-        let Reader { kind: _, options, start, tables, clauses, folders, asked, spare: _ } = self;
-        Ok(RuleFile { options, start, tables, clauses, folders, asked })
+        let Reader {
+            kind: _,
+            options,
+            start,
+            tables,
+            clauses,
+            folders,
+            asked,
+            spare: _,
+        } = self;
+        Ok(RuleFile {
+            options,
+            start,
+            tables,
+            clauses,
+            folders,
+            asked,
+        })
     }
 }

@@ -36,13 +36,13 @@ module _ (n below place i : ℕ) (xs : List ℕ) (some : 0 < length xs) where
   entry-stops r h =
       ap (λ ps. judged (entries-checks n below place i ps) (tt {0})) split
       ∙ judged-stops (tt {0}) (tt {0}) (within (at-entry place i) (entry-checks n below (fields-of xs))) (entries-checks n below place (i + 1) (entry-pieces (drop 12 xs))) (at-entry place i r)
-        (judged-within-err (tt {0}) (tt {0}) (at-entry place i) (entry-checks n below (fields-of xs)) r h)
+      (judged-within-err (tt {0}) (tt {0}) (at-entry place i) (entry-checks n below (fields-of xs)) r h)
 
   entry-passes : judged (entry-checks n below (fields-of xs)) (tt {0}) ≡ Ok tt → judged (entries-checks n below place i (entry-pieces xs)) (tt {0}) ≡ judged (entries-checks n below place (i + 1) (entry-pieces (drop 12 xs))) (tt {0})
   entry-passes h =
       ap (λ ps. judged (entries-checks n below place i ps) (tt {0})) split
       ∙ judged-passes (tt {0}) (tt {0}) (within (at-entry place i) (entry-checks n below (fields-of xs))) (entries-checks n below place (i + 1) (entry-pieces (drop 12 xs))) tt
-        (judged-within-ok (tt {0}) (tt {0}) (at-entry place i) (entry-checks n below (fields-of xs)) tt h)
+      (judged-within-ok (tt {0}) (tt {0}) (at-entry place i) (entry-checks n below (fields-of xs)) tt h)
 
 -- what `add` answers, by the entry's own checks over what the draft was told at first
 added : (d : Draft) (f : EntryFields) (n below : ℕ) (xs : List ℕ) → f ≡ fields-of xs → d .options ≡ n → d .below ≡ below → vec-len (d .entries) < 32 → 1 ≤ n → n ≤ 64 → judged (draft-checks d f) (tt {0}) ≡ judged (entry-checks n below (fields-of xs)) (tt {0})
@@ -80,18 +80,18 @@ loop-rest-again c =
     let e = entry-passes n below place (c .loop-rest .item) xs some (sym own ∙ sym (c .add .ensures .answer) ∙ c .in-rest .is) in
     let grown : drafted d′ ≡ drafted d ++ entry-in xs ∷ [] = rw (c .in-rest .is, c .read-fields .ensures) at (c .add .ensures .entries) in
     let all =
-      ap (λ es. es ++ entries-of (drop 12 xs)) grown ∙ append-assoc (drafted d) (entry-in xs ∷ []) (entries-of (drop 12 xs))
-      ∙ ap (λ ps. drafted d ++ map entry-in ps) (sym (split n below place 0 xs some)) ∙ inv .1 in
+    ap (λ es. es ++ entries-of (drop 12 xs)) grown ∙ append-assoc (drafted d) (entry-in xs ∷ []) (entries-of (drop 12 xs))
+    ∙ ap (λ ps. drafted d ++ map entry-in ps) (sym (split n below place 0 xs some)) ∙ inv .1 in
     let count = ap length grown ∙ length-push (drafted d) (entry-in xs) in
     let shorter = length-drop 12 xs in
     let Kept : List ℕ → Type 0 =
-      λ ys.
-        (judged (entries-checks n below place (c .loop-rest .item + 1) (entry-pieces ys)) (tt {0})
-         ≡ judged (entries-checks n below place 0 (entry-pieces (c .args .body .now))) (tt {0}))
-        × (drafted d′ ++ entries-of ys ≡ entries-of (c .args .body .now))
-        × (length (drafted d′) ≡ c .loop-rest .item + 1)
-        × (d′ .options ≡ n)
-        × (d′ .below ≡ below)
-        × (12 * (c .loop-rest .item + 1) + length ys ≡ length (c .args .body .now)) in
+    λ ys.
+    (judged (entries-checks n below place (c .loop-rest .item + 1) (entry-pieces ys)) (tt {0})
+    ≡ judged (entries-checks n below place 0 (entry-pieces (c .args .body .now))) (tt {0}))
+    × (drafted d′ ++ entries-of ys ≡ entries-of (c .args .body .now))
+    × (length (drafted d′) ≡ c .loop-rest .item + 1)
+    × (d′ .options ≡ n)
+    × (d′ .below ≡ below)
+    × (12 * (c .loop-rest .item + 1) + length ys ≡ length (c .args .body .now)) in
     subst Kept (sym (take-rest xs 12))
     (sym e ∙ inv .0, all, omega (arith, count, inv .2), c .add .ensures .options ∙ inv .3, c .add .ensures .below ∙ inv .4, omega arith)

@@ -11,7 +11,7 @@ use Rattle.rulefile.proofs.folder.add_entries.Given as given
 abbrev pub Inv-loop-rest : given.InvT-loop-rest
 Inv-loop-rest l =
     (judged (entries-checks (l .entry .draft .options) (l .entry .draft .below) (l .place) (l .item) (entry-pieces (l .rest))) (tt {0})
-     ≡ judged (entries-checks (l .entry .draft .options) (l .entry .draft .below) (l .place) 0 (entry-pieces (l .body))) (tt {0}))
+    ≡ judged (entries-checks (l .entry .draft .options) (l .entry .draft .below) (l .place) 0 (entry-pieces (l .body))) (tt {0}))
     × (drafted (l .draft) ++ entries-of (l .rest) ≡ entries-of (l .body))
     × (length (drafted (l .draft)) ≡ l .item)
     × (l .draft .options ≡ l .entry .draft .options)

@@ -22,8 +22,8 @@ returns-in-Break-check-shape c =
     let body = c .args .body .now in
     let entries = entries-checks (c .args .options) (c .args .below) (c .args .place) 0 (entry-pieces body) in
     let e =
-      judged-lone (tt {0}) (entries-of body) Record (unfit-folder body) (at Unfit (c .args .place)) (c .in-Break-check-shape .field-0 .0)
-      entries (sym (c .check-shape .ensures) ∙ c .in-Break-check-shape .was tt) in
+    judged-lone (tt {0}) (entries-of body) Record (unfit-folder body) (at Unfit (c .args .place)) (c .in-Break-check-shape .field-0 .0)
+    entries (sym (c .check-shape .ensures) ∙ c .in-Break-check-shape .was tt) in
     let p = err-from-errBy (c .from-residual .result) (c .from-residual .ensures .1) in
     rw (p .1, p .2) (sym e)
 

@@ -49,8 +49,8 @@ loop-wanted-again c =
     let found = rw (h .1) at (sym (c .check-wanted .ensures) ∙ c .in-Continue-check-wanted .was tt) in
     let e = clause-passes (c .args .options) (c .args .place) (c .loop-wanted .item) xs (h .0) found in
     let Kept : List ℕ → Type 0 =
-      λ ys.
-        (judged (clause-checks (c .args .options) (c .args .place) (c .loop-wanted .item + 1) (clause-pieces ys)) (tt {0})
-         ≡ judged (clause-checks (c .args .options) (c .args .place) 0 (clause-pieces (c .args .body .now))) (tt {0}))
-        × ((c .loop-wanted .item + 1) + length ys ≤ length (c .args .body .now)) in
+    λ ys.
+    (judged (clause-checks (c .args .options) (c .args .place) (c .loop-wanted .item + 1) (clause-pieces ys)) (tt {0})
+    ≡ judged (clause-checks (c .args .options) (c .args .place) 0 (clause-pieces (c .args .body .now))) (tt {0}))
+    × ((c .loop-wanted .item + 1) + length ys ≤ length (c .args .body .now)) in
     subst Kept (sym (h .2)) (sym e ∙ c .loop-wanted .inv .0, omega (arith, h .0, length-drop (clause-size xs) xs, c .loop-wanted .inv .1))

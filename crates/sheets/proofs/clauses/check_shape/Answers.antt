@@ -20,9 +20,9 @@ loop-rest-again c =
     let fit : unfit-clause xs ≡ false = grind (arith, tells) in
     let shorter = length-drop size xs in
     let Kept : List ℕ → Type 0 =
-      λ ys.
-        (any-unfit (clause-pieces ys) ≡ any-unfit (clause-pieces (c .args .body .now)))
-        × ((c .loop-rest .clauses + 1) + length (clause-pieces ys) ≡ length (clause-pieces (c .args .body .now)))
-        × ((c .loop-rest .clauses + 1) + length ys ≤ length (c .args .body .now)) in
+    λ ys.
+    (any-unfit (clause-pieces ys) ≡ any-unfit (clause-pieces (c .args .body .now)))
+    × ((c .loop-rest .clauses + 1) + length (clause-pieces ys) ≡ length (clause-pieces (c .args .body .now)))
+    × ((c .loop-rest .clauses + 1) + length ys ≤ length (c .args .body .now)) in
     subst Kept (sym (take-rest xs size))
     (simp fit at (sym (ap any-unfit more)) ∙ c .loop-rest .inv .0, omega (arith, ap length more), omega arith)

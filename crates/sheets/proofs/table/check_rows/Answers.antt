@@ -25,10 +25,10 @@ loop-rest-again c =
     let fit : leb (2 ^ w) (row-of xs) ≡ false = sym (c .if-has-bit-from .ensures tt) in
     let shorter = length-drop 2 xs in
     let Kept : List ℕ → Type 0 =
-      λ ys.
-        (judged (row-checks w place (c .loop-rest .item + 1) (rows-in ys)) (tt {0})
-         ≡ judged (row-checks w place 0 (rows-in (c .args .rows .now))) (tt {0}))
-        × (length ys % 2 ≡ 0)
-        × ((c .loop-rest .item + 1) + length ys ≤ length (c .args .rows .now)) in
+    λ ys.
+    (judged (row-checks w place (c .loop-rest .item + 1) (rows-in ys)) (tt {0})
+    ≡ judged (row-checks w place 0 (rows-in (c .args .rows .now))) (tt {0}))
+    × (length ys % 2 ≡ 0)
+    × ((c .loop-rest .item + 1) + length ys ≤ length (c .args .rows .now)) in
     subst Kept (sym (take-rest xs 2))
     (sym (row-passes w place (c .loop-rest .item) xs some fit) ∙ c .loop-rest .inv .0, omega arith, omega arith)

@@ -9,7 +9,7 @@ use Rattle.sheets.proofs.table.check_rows.Given as given
 abbrev pub Inv-loop-rest : given.InvT-loop-rest
 Inv-loop-rest l =
     (judged (row-checks (l .columns) (l .place) (l .item) (rows-in (l .rest))) (tt {0})
-     ≡ judged (row-checks (l .columns) (l .place) 0 (rows-in (l .rows))) (tt {0}))
+    ≡ judged (row-checks (l .columns) (l .place) 0 (rows-in (l .rows))) (tt {0}))
     × (length (l .rest) % 2 ≡ 0)
     × (l .item + length (l .rest) ≤ length (l .rows))
 

@@ -29,7 +29,7 @@ returns-in-Break-entry c =
       answer = cc (p .1, p .2, e);
       entries = rw (p .1) (search needs);
       options = search needs;
-      below = search needs
+      below = search needs;
     }
 
 -- where the check passes there is room
@@ -61,5 +61,5 @@ returns c =
       answer = sym (judged-ok (entry-of (c .args .fields)) (tt {0}) checks (c .in-Continue-entry .entry) was);
       entries = rw (← value) (c .push-reserved .ensures .items);
       options = search needs;
-      below = search needs
+      below = search needs;
     }

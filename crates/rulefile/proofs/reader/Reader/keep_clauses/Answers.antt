@@ -1,16 +1,14 @@
 -- A sheet that is refused is refused as its checks say; one that passes is the last.
-use mathlib.Core.Path.{_≡_, refl, sym, _∙_, ap}
-use mathlib.Core.List.{[], _∷_, _++_, map}
+use mathlib.Core.Path.{refl, sym, ap}
 use native.Mathlib.Omega.{arith}
 use Rattle.std.specs.Of.Vec.{vec-items}
-use Rattle.std.proofs.shelf.Lists.{map-push}
 use Rattle.std.proofs.shelf.Results.{err-from-errBy, made-from-err}
 use Rattle.refusals.specs.declared.fault.FileFault.the-variants.{Sheet}
 use Rattle.refusals.proofs.Judged.{judged-value, judged-within-err, judged-within-ok}
 use Rattle.ruleformat.specs.Clauses.{clauses-checks, clauses-of}
 use Rattle.rulefile.specs.Held.{held}
 use Rattle.sheets.specs.Views.{clause-body}
-use Rattle.rulefile.proofs.Parts.{set-clauses}
+use Rattle.rulefile.proofs.Parts.{map-grown, set-clauses}
 use Rattle.rulefile.proofs.reader.Reader.keep_clauses.Needs as need
 
 pub returns-in-Break-sheet : need.returns-in-Break-sheet
@@ -36,10 +34,9 @@ returns c =
     let ok = sym (c .in-Continue-sheet .ensures tt) in
     let same = judged-value checks body (clause-body sheet) ok in
     let grown =
-      ap (map (λ t. clauses-of (clause-body t))) (c .push-reserved .ensures .items)
-      ∙ map-push (λ t. clauses-of (clause-body t)) (vec-items (r .clauses)) sheet
-      ∙ ap (λ b. map (λ t. clauses-of (clause-body t)) (vec-items (r .clauses)) ++ clauses-of b ∷ []) same in
+    map-grown clauses-of clause-body (vec-items (r .clauses)) (vec-items (c .push-reserved .last .self)) sheet body
+    (c .push-reserved .ensures .items) same in
     record {
       answer = sym (judged-within-ok body (tt {0}) Sheet checks (clause-body sheet) ok);
-      kept = record { holds = ap (set-clauses (held r)) grown; last = refl; paired = c .pre .paired }
+      kept = record { holds = ap (set-clauses (held r)) grown; last = refl; paired = c .pre .paired };
     }

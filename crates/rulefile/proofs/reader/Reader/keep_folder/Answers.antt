@@ -1,10 +1,9 @@
 -- A folder that is refused is refused as its checks say; one that passes is the last.
 use mathlib.Core.Path.{_≡_, refl, sym, _∙_, ap}
-use mathlib.Core.List.{List, [], _∷_, _++_, map}
+use mathlib.Core.List.{List}
 use Prim.Native.Nat.{ℕ}
 use native.Mathlib.Omega.{arith}
 use Rattle.std.specs.Of.Vec.{vec-items}
-use Rattle.std.proofs.shelf.Lists.{map-push}
 use Rattle.std.proofs.shelf.Results.{err-from-errBy, made-from-err}
 use Rattle.refusals.specs.Checks.{judged}
 use Rattle.refusals.specs.declared.fault.FileFault.the-variants.{Folder}
@@ -13,7 +12,7 @@ use Rattle.ruleformat.specs.Contents.{rules}
 use Rattle.ruleformat.specs.Folders.{entries-of, folder-checks}
 use Rattle.rulefile.specs.Held.{held}
 use Rattle.rulefile.specs.Views.{drafted}
-use Rattle.rulefile.proofs.Parts.{set-folders}
+use Rattle.rulefile.proofs.Parts.{map-grown, set-folders}
 use Rattle.rulefile.proofs.reader.Reader.keep_folder.Needs as need
 
 -- the count of rules below, as it was found
@@ -39,10 +38,10 @@ returns c =
     let checks = folder-checks (r .options) (rules (held r)) (c .args .place) body in
     let ok = same-rules (r .options) (c .args .place) body (c .rules-rules .ensures) ∙ sym (c .in-Continue-draft .ensures tt) in
     let grown =
-      ap (map drafted) (c .push-reserved .ensures .items) ∙ map-push drafted (vec-items (r .folders)) draft
-      ∙ ap (λ es. map drafted (vec-items (r .folders)) ++ es ∷ []) (judged-value checks (entries-of body) (drafted draft) ok) in
+    map-grown (λ es. es) drafted (vec-items (r .folders)) (vec-items (c .push-reserved .last .self)) draft (entries-of body)
+    (c .push-reserved .ensures .items) (judged-value checks (entries-of body) (drafted draft) ok) in
     let popped = c .in-Some .ensures tt .len in
     record {
       answer = sym (judged-within-ok (entries-of body) (tt {0}) Folder checks (drafted draft) ok);
-      kept = record { holds = ap (set-folders (held r)) grown; last = refl; paired = omega (arith, popped, c .push-reserved .ensures .len, c .pre .paired) }
+      kept = record { holds = ap (set-folders (held r)) grown; last = refl; paired = omega (arith, popped, c .push-reserved .ensures .len, c .pre .paired) };
     }

@@ -1,16 +1,14 @@
 -- A sheet that is refused is refused as its checks say; one that passes is the last.
-use mathlib.Core.Path.{_≡_, refl, sym, _∙_, ap}
-use mathlib.Core.List.{[], _∷_, _++_, map}
+use mathlib.Core.Path.{refl, sym, ap}
 use native.Mathlib.Omega.{arith}
 use Rattle.std.specs.Of.Vec.{vec-items}
-use Rattle.std.proofs.shelf.Lists.{map-push}
 use Rattle.std.proofs.shelf.Results.{err-from-errBy, made-from-err}
 use Rattle.refusals.specs.declared.fault.FileFault.the-variants.{Sheet}
 use Rattle.refusals.proofs.Judged.{judged-value, judged-within-err, judged-within-ok}
 use Rattle.ruleformat.specs.Tables.{table-checks, table-of}
 use Rattle.rulefile.specs.Held.{held}
 use Rattle.sheets.specs.Views.{table-body}
-use Rattle.rulefile.proofs.Parts.{set-tables}
+use Rattle.rulefile.proofs.Parts.{map-grown, set-tables}
 use Rattle.rulefile.proofs.reader.Reader.keep_table.Needs as need
 
 pub returns-in-Break-sheet : need.returns-in-Break-sheet
@@ -36,10 +34,9 @@ returns c =
     let ok = sym (c .in-Continue-sheet .ensures tt) in
     let same = judged-value checks body (table-body sheet) ok in
     let grown =
-      ap (map (λ t. table-of (table-body t))) (c .push-reserved .ensures .items)
-      ∙ map-push (λ t. table-of (table-body t)) (vec-items (r .tables)) sheet
-      ∙ ap (λ b. map (λ t. table-of (table-body t)) (vec-items (r .tables)) ++ table-of b ∷ []) same in
+    map-grown table-of table-body (vec-items (r .tables)) (vec-items (c .push-reserved .last .self)) sheet body
+    (c .push-reserved .ensures .items) same in
     record {
       answer = sym (judged-within-ok body (tt {0}) Sheet checks (table-body sheet) ok);
-      kept = record { holds = ap (set-tables (held r)) grown; last = refl; paired = c .pre .paired }
+      kept = record { holds = ap (set-tables (held r)) grown; last = refl; paired = c .pre .paired };
     }

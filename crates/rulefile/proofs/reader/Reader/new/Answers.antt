@@ -31,8 +31,8 @@ returns c =
     let fs = nil-from-length (vec-items (s .folders)) (sym (s .folders .ok .0) ∙ none .2) in
     record {
       holds =
-        no-parts (c .new .ensures .yes) (c .new .ensures .no) (ap (map (λ t. table-of (table-body t))) ts)
-        (ap (map (λ t. clauses-of (clause-body t))) ss) (ap (map drafted) fs);
+          no-parts (c .new .ensures .yes) (c .new .ensures .no) (ap (map (λ t. table-of (table-body t))) ts)
+          (ap (map (λ t. clauses-of (clause-body t))) ss) (ap (map drafted) fs);
       last = refl;
-      paired = omega (arith, none .2, s .room .3)
+      paired = omega (arith, none .2, s .room .3);
     }

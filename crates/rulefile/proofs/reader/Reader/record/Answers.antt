@@ -29,9 +29,9 @@ returns-in-Break-next c =
     let told = c .in-Break-next .field-0 .0 in
     let found = heads-answer r (c .before-2 .result) place rest (Err told) (c .before-2 .ensures) (c .in-Break-next .ensures tt) in
     let e =
-      judged-stops (whole place rest) (drop (record-size rest) rest) (within Record heads)
-      (body-checks (kind rest) place (body rest) (held r)) (Record told)
-      (judged-within-err (whole place rest) (whole place rest) Record heads told found) in
+    judged-stops (whole place rest) (drop (record-size rest) rest) (within Record heads)
+    (body-checks (kind rest) place (body rest) (held r)) (Record told)
+    (judged-within-err (whole place rest) (whole place rest) Record heads told found) in
     let p = err-from-errBy (c .from-residual .result) (c .from-residual .ensures .1) in
     record { answer = rw (p .1, p .2) (sym e); kept = made-from-err (c .from-residual .result) _ (c .from-residual .ensures .0) }
 
@@ -70,12 +70,12 @@ returns-in-Break-keep c =
     let passed = heads-answer r (c .before-2 .result) place rest (Ok x) (c .before-2 .ensures) (c .in-Continue-next .ensures tt) in
     let found = sym (same-body r place rest x passed) ∙ sym (c .in-Break-keep .ensures tt .answer) in
     let e =
-      body-decides r place rest x passed
-      ∙ judged-err (tt {0}) (drop (record-size rest) rest) (body-checks (kind rest) place (body rest) (held r)) told found in
+    body-decides r place rest x passed
+    ∙ judged-err (tt {0}) (drop (record-size rest) rest) (body-checks (kind rest) place (body rest) (held r)) told found in
     let p = err-from-errBy (c .from-residual-in-Break-keep .result) (c .from-residual-in-Break-keep .ensures .1) in
     record {
       answer = rw (p .1, p .2) (sym e);
-      kept = made-from-err (c .from-residual-in-Break-keep .result) _ (c .from-residual-in-Break-keep .ensures .0)
+      kept = made-from-err (c .from-residual-in-Break-keep .result) _ (c .from-residual-in-Break-keep .ensures .0);
     }
 
 pub part-result-count : need.part-result-count
@@ -102,10 +102,10 @@ returns c =
     let passed = heads-answer r (c .before-2 .result) place rest (Ok x) (c .before-2 .ensures) (c .in-Continue-next .ensures tt) in
     let found = sym (same-body r place rest x passed) ∙ sym (c .in-Continue-keep .ensures tt .answer) in
     let e =
-      body-decides r place rest x passed
-      ∙ judged-ok (tt {0}) (drop (record-size rest) rest) (body-checks (kind rest) place (body rest) (held r)) tt found in
+    body-decides r place rest x passed
+    ∙ judged-ok (tt {0}) (drop (record-size rest) rest) (body-checks (kind rest) place (body rest) (held r)) tt found in
     let size = c .size .ensures ∙ size-is r place rest x passed in
     record {
       answer = ap Ok (take-rest rest (c .size .result) ∙ ap (λ n. drop n rest) size) ∙ sym e;
-      kept = subst (λ (y : Shown). Kept (y .kind) (with-record (y .kind) (y .body) (held r)) (c .keep .last .self)) (shown-is r place rest x passed) (c .in-Continue-keep .ensures tt .kept)
+      kept = subst (λ (y : Shown). Kept (y .kind) (with-record (y .kind) (y .body) (held r)) (c .keep .last .self)) (shown-is r place rest x passed) (c .in-Continue-keep .ensures tt .kept);
     }

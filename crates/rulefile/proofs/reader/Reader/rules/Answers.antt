@@ -25,8 +25,8 @@ last-of fs d n some e =
     let there = ap (λ k. getD (map drafted fs) (k - 1) []) m ∙ getD-map drafted fs last d [] inside ∙ ap drafted (sym e) in
     sym
     (cond-false (eqb (length (map drafted fs)) 0) n (length (getD (map drafted fs) (length (map drafted fs) - 1) []))
-     (ne-eqb (length (map drafted fs)) 0 (λ z. omega arith))
-     ∙ ap length there)
+    (ne-eqb (length (map drafted fs)) 0 (λ z. omega arith))
+    ∙ ap length there)
 
 none-of : (fs : List Draft) (n m : ℕ) → length fs ≤ 0 → n ≡ cond (eqb (length (map drafted fs)) 0) n m
 none-of fs n m none =
@@ -40,8 +40,8 @@ returns-in-Some c =
     let d = c .in-Some .folder .now in
     let l = rw (c .deref .ensures .value) at (c .in-Some .ensures tt .item) in
     let n =
-      length (map (λ t. table-of (table-body t)) (vec-items (r .tables)))
-      + length (map (λ s. clauses-of (clause-body s)) (vec-items (r .clauses))) in
+    length (map (λ t. table-of (table-body t)) (vec-items (r .tables)))
+    + length (map (λ s. clauses-of (clause-body s)) (vec-items (r .clauses))) in
     ap length (c .entries .ensures) ∙ last-of fs d n (l .3 .0) (l .1)
 
 pub returns-in-None : need.returns-in-None
@@ -52,7 +52,7 @@ returns-in-None c =
     let ts = length-map (vec-items (r .tables)) (λ t. table-of (table-body t)) in
     let ss = length-map (vec-items (r .clauses)) (λ s. clauses-of (clause-body s)) in
     let n =
-      length (map (λ t. table-of (table-body t)) (vec-items (r .tables)))
-      + length (map (λ s. clauses-of (clause-body s)) (vec-items (r .clauses))) in
+    length (map (λ t. table-of (table-body t)) (vec-items (r .tables)))
+    + length (map (λ s. clauses-of (clause-body s)) (vec-items (r .clauses))) in
     let sum : c .len .result + c .len-in-None .result ≡ n = omega (arith, r .tables .ok .0, r .clauses .ok .0) in
     sum ∙ none-of fs n (length (getD (map drafted fs) (length (map drafted fs) - 1) [])) (l .3)

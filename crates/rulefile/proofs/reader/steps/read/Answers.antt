@@ -34,5 +34,5 @@ returns c =
     let bytes = c .args .bytes .now in
     record {
       answer = c .read-records .ensures;
-      exact = exact bytes (bytes-fit bytes (c .typed .bytes)) (c .read-records .result) (c .read-records .ensures)
+      exact = exact bytes (bytes-fit bytes (c .typed .bytes)) (c .read-records .result) (c .read-records .ensures);
     }

@@ -29,15 +29,15 @@ module _ (total before : ℕ) (c : Contents) (rest : List ℕ) (some : 0 < lengt
   record-stops v e h =
       ap (λ ps. judged (checks-from total before c ps) v) more
       ∙ judged-stops (drop (record-size rest) rest) v (record-checks before (total - length rest) rest c)
-        (checks-from total (kind rest) (with-record (kind rest) (body rest) c) (records (drop (record-size rest) rest))) e h
+      (checks-from total (kind rest) (with-record (kind rest) (body rest) c) (records (drop (record-size rest) rest))) e h
 
   record-passes : (x : List ℕ) → judged (record-checks before (total - length rest) rest c) (drop (record-size rest) rest) ≡ Ok x → judged (checks-from total before c (records rest)) (held-from c (records rest)) ≡ judged (checks-from total (kind rest) (with-record (kind rest) (body rest) c) (records (drop (record-size rest) rest))) (held-from (with-record (kind rest) (body rest) c) (records (drop (record-size rest) rest)))
   record-passes x h =
       let after = drop (record-size rest) rest in
       ap (λ ps. judged (checks-from total before c ps) (held-from c ps)) more
       ∙ judged-passes after (held-from (with-record (kind rest) (body rest) c) (records after))
-        (record-checks before (total - length rest) rest c)
-        (checks-from total (kind rest) (with-record (kind rest) (body rest) c) (records after)) x h
+      (record-checks before (total - length rest) rest c)
+      (checks-from total (kind rest) (with-record (kind rest) (body rest) c) (records after)) x h
 
 -- what is left decides by its bytes, the kind before and the contents so far
 same-left : {k k′ : ℕ} {c c′ : Contents} {ys ys′ : List ℕ} (total : ℕ) → k ≡ k′ → c ≡ c′ → ys ≡ ys′ → judged (checks-from total k c (records ys)) (held-from c (records ys)) ≡ judged (checks-from total k′ c′ (records ys′)) (held-from c′ (records ys′))
@@ -57,8 +57,8 @@ returns-in-Break-rest c =
     let fits = le-ltb 32768 (length bytes) (c .if-bytes-gt-MAX-FILE .left) in
     let some : 0 < length rest = omega (arith, eqb-false (length rest) 0 (sym (c .loop-rest-test .ensures tt))) in
     let e =
-      record-stops (length bytes) (r .kind) (held r) rest some (held-from (held r) (records rest)) (c .in-Break-rest .field-0 .0)
-      (sym (c .in-Break-rest .ensures tt .answer)) in
+    record-stops (length bytes) (r .kind) (held r) rest some (held-from (held r) (records rest)) (c .in-Break-rest .field-0 .0)
+    (sym (c .in-Break-rest .ensures tt .answer)) in
     let p = err-from-errBy (c .from-residual .result) (c .from-residual .ensures .1) in
     rw (p .1, p .2, fits) (sym e ∙ c .loop-rest .inv .0)
 
@@ -84,6 +84,8 @@ loop-rest-again c =
     let some : 0 < length rest = omega (arith, eqb-false (length rest) 0 (sym (c .loop-rest-test .ensures tt))) in
     let e = record-passes (length bytes) (r .kind) (held r) rest some (c .in-Continue-rest .rest .now) (sym (c .in-Continue-rest .ensures tt .answer)) in
     let kept = c .in-Continue-rest .ensures tt .kept in
-    let shorter = ap length (after-is c) ∙ length-drop (record-size rest) rest in
-    (same-left (length bytes) (kept .last) (kept .holds) (after-is c) ∙ sym e ∙ c .loop-rest .inv .0, kept .paired,
-     omega (arith, c .loop-rest .inv .2))
+    let shorter = ap length (after-is c) ∙ length-drop (record-size rest) rest in (
+      same-left (length bytes) (kept .last) (kept .holds) (after-is c) ∙ sym e ∙ c .loop-rest .inv .0,
+      kept .paired,
+      omega (arith, c .loop-rest .inv .2),
+    )

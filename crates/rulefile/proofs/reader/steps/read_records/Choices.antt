@@ -12,8 +12,8 @@ use Rattle.rulefile.proofs.reader.steps.read_records.Given as given
 abbrev pub Inv-loop-rest : given.InvT-loop-rest
 Inv-loop-rest l =
     (judged (checks-from (length (l .bytes)) (l .reader .kind) (held (l .reader)) (records (l .rest)))
-     (held-from (held (l .reader)) (records (l .rest)))
-     ≡ judged (checks-from (length (l .bytes)) 0 nothing (records (l .bytes))) (contents (l .bytes)))
+    (held-from (held (l .reader)) (records (l .rest)))
+    ≡ judged (checks-from (length (l .bytes)) 0 nothing (records (l .bytes))) (contents (l .bytes)))
     × Paired (l .reader)
     × (length (l .rest) ≤ length (l .bytes))
 

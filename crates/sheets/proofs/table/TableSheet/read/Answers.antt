@@ -34,13 +34,13 @@ module _ (n place k : ℕ) (body : List ℕ) (counted : judged (when (unfit-tabl
   columns-stop e h =
       rw fit
       (judged-stops (tt {0}) body (column-checks n place 0 0 (columns-of body)) (row-checks (width body) place 0 (rows-of body)) e
-       (rw columns-are at h))
+      (rw columns-are at h))
 
   columns-pass : judged (column-checks n place 0 0 (take ((1 + k) - 1) (drop 1 body))) (tt {0}) ≡ Ok tt → judged (table-checks n place body) body ≡ judged (row-checks (width body) place 0 (rows-of body)) body
   columns-pass h =
       rw fit
       (judged-passes (tt {0}) body (column-checks n place 0 0 (columns-of body)) (row-checks (width body) place 0 (rows-of body)) tt
-       (rw columns-are at h))
+      (rw columns-are at h))
 
   rows-decide : judged (row-checks k place 0 (rows-in (take (length body - (1 + k)) (drop (1 + k) body)))) (tt {0}) ≡ judged (row-checks (width body) place 0 (rows-of body)) (tt {0})
   rows-decide =
@@ -51,8 +51,8 @@ pub returns-in-Break-check-columns : need.returns-in-Break-check-columns
 returns-in-Break-check-columns c =
     let was = sym (c .count-columns .ensures) ∙ c .in-Continue-columns .was tt in
     let e =
-      columns-stop (c .args .options) (c .args .place) (c .in-Continue-columns .columns) (c .args .body .now) was
-      (c .in-Break-check-columns .field-0 .0) (sym (c .check-columns .ensures) ∙ c .in-Break-check-columns .was tt) in
+    columns-stop (c .args .options) (c .args .place) (c .in-Continue-columns .columns) (c .args .body .now) was
+    (c .in-Break-check-columns .field-0 .0) (sym (c .check-columns .ensures) ∙ c .in-Break-check-columns .was tt) in
     let p = err-from-errBy (c .from-residual-in-Break-check-columns .result) (c .from-residual-in-Break-check-columns .ensures .1) in
     rw (p .1, p .2) (sym e)
 
@@ -64,8 +64,8 @@ returns-in-Break-check-rows c =
     let told = c .in-Break-check-rows .field-0 .0 in
     let rows = sym (rows-decide (c .args .options) (c .args .place) k body was) ∙ sym (c .check-rows .ensures) ∙ c .in-Break-check-rows .was tt in
     let e =
-      columns-pass (c .args .options) (c .args .place) k body was (sym (c .check-columns .ensures) ∙ c .in-Continue-check-columns .was tt)
-      ∙ judged-err (tt {0}) body (row-checks (width body) (c .args .place) 0 (rows-of body)) told rows in
+    columns-pass (c .args .options) (c .args .place) k body was (sym (c .check-columns .ensures) ∙ c .in-Continue-check-columns .was tt)
+    ∙ judged-err (tt {0}) body (row-checks (width body) (c .args .place) 0 (rows-of body)) told rows in
     let p = err-from-errBy (c .from-residual-in-Break-check-rows .result) (c .from-residual-in-Break-check-rows .ensures .1) in
     rw (p .1, p .2) (sym e)
 
@@ -77,4 +77,4 @@ returns c =
     let rows = sym (rows-decide (c .args .options) (c .args .place) k body was) ∙ sym (c .check-rows .ensures) ∙ c .in-Continue-check-rows .was tt in
     sym
     (columns-pass (c .args .options) (c .args .place) k body was (sym (c .check-columns .ensures) ∙ c .in-Continue-check-columns .was tt)
-     ∙ judged-ok (tt {0}) body (row-checks (width body) (c .args .place) 0 (rows-of body)) tt rows)
+    ∙ judged-ok (tt {0}) body (row-checks (width body) (c .args .place) 0 (rows-of body)) tt rows)

@@ -16,8 +16,8 @@ returns-in-Some c =
     let shorter = ap length (h .2) ∙ length-drop (clause-size rest) rest in
     record {
       steps =
-        ap (map clause-of) (pieces-more clause-size rest (h .0) (omega arith))
-        ∙ ap (λ ws. map wanted-of ws ∷ clauses-of (drop (clause-size rest) rest)) (sym (h .1))
-        ∙ ap (λ ys. map wanted-of (c .in-Some .wanted .now) ∷ clauses-of ys) (sym (h .2));
-      goes = search needs
+          ap (map clause-of) (pieces-more clause-size rest (h .0) (omega arith))
+          ∙ ap (λ ws. map wanted-of ws ∷ clauses-of (drop (clause-size rest) rest)) (sym (h .1))
+          ∙ ap (λ ys. map wanted-of (c .in-Some .wanted .now) ∷ clauses-of ys) (sym (h .2));
+      goes = search needs;
     }

@@ -16,7 +16,7 @@ returns c =
     let some : 0 < length rest = omega arith in
     record {
       steps =
-        ap (map row-of) (pieces-more row-size rest some (omega arith))
-        ∙ ap (λ ys. row-of rest ∷ rows-in ys) (sym (take-rest rest 2));
-      goes = search needs
+          ap (map row-of) (pieces-more row-size rest some (omega arith))
+          ∙ ap (λ ys. row-of rest ∷ rows-in ys) (sym (take-rest rest 2));
+      goes = search needs;
     }
