@@ -1,4 +1,4 @@
-// Folder entries, and the draft that checks and keeps them. Uses `refusals`.
+// Folder entries, and the draft that checks and keeps them. Uses `assignment` and `refusals`.
 mod draft;
 mod entry;
 mod fields;

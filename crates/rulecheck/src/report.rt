@@ -2,7 +2,7 @@
 use crate::entry::write_entry;
 use assignment::Assignment;
 use assignment::Value;
-use entries::Draft;
+use entries::Entry;
 use rulefile::RuleFile;
 use sheets::Clause;
 use sheets::ClauseIterator;
@@ -26,8 +26,11 @@ pub fn report<W: Write>(out: &mut W, file: &RuleFile) -> io::Result<()> {
         write_clauses(out, rule, sheet)?;
         rule = rule.wrapping_add(1);
     }
-    for (i, folder) in file.folders().iter().enumerate() {
-        write_folder(out, i, folder)?;
+    for index in 0..file.folder_count() {
+        if let Some(entries) = file.folder(index) {
+            writeln!(out, "\nfolder {}", index + 1)?;
+            write_entries(out, entries)?;
+        }
     }
     let asked = file.asked();
     writeln!(out, "\nasked: rule {asked}")
@@ -99,10 +102,8 @@ fn write_clause<W: Write>(out: &mut W, clause: Clause) -> io::Result<()> {
     writeln!(out)
 }
 
-fn write_folder<W: Write>(out: &mut W, index: usize, folder: &Draft) -> io::Result<()> {
-    let below = folder.below();
-    writeln!(out, "\nfolder {index}, over {below} rules")?;
-    for (rule, entry) in folder.entries().iter().enumerate() {
+fn write_entries<W: Write>(out: &mut W, entries: &[Entry]) -> io::Result<()> {
+    for (rule, entry) in entries.iter().enumerate() {
         let indent = if rule < 10 { "   " } else { "  " };
         write!(out, "{indent}rule {rule}: ")?;
         write_entry(out, *entry)?;

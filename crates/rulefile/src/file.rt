@@ -1,8 +1,13 @@
 // What an accepted rule file holds.
 ghost use mathlib.Core.Path.{_≡_};
-ghost use Rattle.std.specs.Of.Vec.{vec-items};
+ghost use mathlib.Core.List.{map};
+ghost use Rattle.std.specs.Of.Vec.{vec-items, vec-len};
+ghost use Rattle.std.specs.Options.{mapped};
+ghost use Rattle.std.specs.Runs.{nth};
+ghost use Rattle.rulefile.specs.Views.{drafted};
 use assignment::Assignment;
 use entries::Draft;
+use entries::Entry;
 use sheets::ClauseSheet;
 use sheets::TableSheet;
 
@@ -48,11 +53,21 @@ impl<'a> RuleFile<'a> {
         self.clauses.as_slice()
     }
 
-    /// The folders, from the lowest on.
-    pub fn folders(&self) -> &[Draft]
-        ensures { λ r. ⌜ now r ≡ vec-items (now (self .entry) .folders) ⌝ }
+    /// How many folders there are.
+    pub fn folder_count(&self) -> usize
+        ensures { λ r. ⌜ r ≡ vec-len (now (self .entry) .folders) ⌝ }
     {
-        self.folders.as_slice()
+        self.folders.len()
+    }
+
+    /// The entries of a folder, counted from the lowest; none where there is no such folder.
+    pub fn folder(&self, index: usize) -> Option<&[Entry]>
+        ensures { λ r. ⌜ mapped now r ≡ nth (map drafted (vec-items (now (self .entry) .folders))) index ⌝ }
+    {
+        match self.folders.get(index) {
+            Some(folder) => Some(folder.entries()),
+            None => None,
+        }
     }
 
     /// The asked rule.

@@ -1,7 +1,7 @@
 // A table sheet: some options as columns, and rows that say yes or no to each.
 ghost use mathlib.Core.Path.{_≡_};
 ghost use mathlib.Core.List.{[], _∷_};
-ghost use Prim.Native.Nat.{_%_};
+ghost use Prim.Native.Nat.{min, _+_, _%_};
 ghost use lib.ListN.{length};
 ghost use Rattle.refusals.specs.Checks.{judged, seen, when};
 ghost use Rattle.refusals.specs.declared.refusal.Refusal.the-variants.{Unfit};
@@ -41,10 +41,11 @@ impl<'a> TableSheet<'a> {
         ensures { λ r. ⌜ now r ≡ columns-of (table-body (now (self .entry))) ⌝ }
     {
         let body = self.body;
-        if body.is_empty() {
+        let end = columns_end(body);
+        if end == 0 {
             return body;
         }
-        &body[1..body.len().min(1 + body[0] as usize)]
+        &body[1..end]
     }
 
     /// The rows, from the first on.
@@ -52,13 +53,19 @@ impl<'a> TableSheet<'a> {
         ensures { λ r. ⌜ rows-in (now (r .rest)) ≡ rows-of (table-body (now (self .entry))) ⌝ }
     {
         let body = self.body;
-        if body.is_empty() {
-            return Rows { rest: body };
-        }
-        Rows {
-            rest: &body[body.len().min(1 + body[0] as usize)..],
-        }
+        let end = columns_end(body);
+        Rows { rest: &body[end..] }
     }
+}
+
+// Where the columns end: as far as their number says, or as the body goes.
+fn columns_end(body: &[u8]) -> usize
+    ensures { λ r. ⌜ r ≡ min (length (now (body .entry))) (1 + width-of (now (body .entry))) ⌝ }
+{
+    if body.is_empty() {
+        return 0;
+    }
+    body.len().min(1 + body[0] as usize)
 }
 
 // How many columns there are, where the body has room for them and for whole rows.

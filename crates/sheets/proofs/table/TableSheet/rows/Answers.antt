@@ -9,4 +9,5 @@ use Rattle.sheets.proofs.table.TableSheet.rows.Needs as need
 pub returns : need.returns
 returns c =
     let body = c .args .self .now .body .now in
-    ap rows-in (take-rest body (c .min .result) ∙ back body (getD body 0 0) (c .min .result) (c .min .ensures))
+    let end = c .columns-end-end .result in
+    ap rows-in (take-rest body end ∙ back body (getD body 0 0) end (c .columns-end-end .ensures))

@@ -26,7 +26,7 @@ returns c =
     let some : 0 < length rest = omega (arith, eqb-false (length rest) 0 (sym (c .if-is-empty .ensures tt))) in
     record {
       steps =
-        ap (map wanted-of) (first-rest rest 0 some)
-        ∙ ap (λ w. w ∷ map wanted-of (between 1 (length rest) rest)) (sym (c .from-byte .ensures));
-      goes = search needs
+          ap (map wanted-of) (first-rest rest 0 some)
+          ∙ ap (λ w. w ∷ map wanted-of (between 1 (length rest) rest)) (sym (c .from-byte .ensures));
+      goes = search needs;
     }
