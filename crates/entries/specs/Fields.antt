@@ -11,11 +11,35 @@ use Rattle.entries.specs.declared.entry.Entry.{Entry}
 use Rattle.entries.specs.declared.entry.Entry.the-variants as entry
 use Rattle.entries.specs.declared.fields.EntryFields.{EntryFields}
 
--- the codes of the ops: 0 carry, 1 product, 2 either, 3 selection, 4 projection, 5 complement, 6 none;
--- what is above counts as none, which the check of the op rules out before
+-- the codes of the ops
+abbrev pub carry-op : ℕ
+carry-op = 0
+
+abbrev pub product-op : ℕ
+product-op = 1
+
+abbrev pub either-op : ℕ
+either-op = 2
+
+abbrev pub selection-op : ℕ
+selection-op = 3
+
+abbrev pub projection-op : ℕ
+projection-op = 4
+
+abbrev pub complement-op : ℕ
+complement-op = 5
+
+abbrev pub none-op : ℕ
+none-op = 6
+
+-- a choice by the op; a code above all of them counts as none, which the check of the op rules out before
 abbrev pub by-op : {A : Type 0} → ℕ → (carry product either selection projection complement none : A) → A
 by-op op c p e s j m n =
-    cond (eqb op 0) c (cond (eqb op 1) p (cond (eqb op 2) e (cond (eqb op 3) s (cond (eqb op 4) j (cond (eqb op 5) m n)))))
+    cond (eqb op carry-op) c
+    (cond (eqb op product-op) p
+    (cond (eqb op either-op) e
+    (cond (eqb op selection-op) s (cond (eqb op projection-op) j (cond (eqb op complement-op) m n)))))
 
 -- the entry that fields stand for; only what passes the checks is ever kept
 abbrev pub entry-of : EntryFields → Entry
@@ -66,6 +90,6 @@ hides-many f = by-op (f .op) false false false false (ltb 16 (ones (f .word))) f
 -- n options, over a count of rules below
 abbrev pub entry-checks : ℕ → ℕ → EntryFields → List (Check Refusal)
 entry-checks n below f =
-    when (ltb 6 (f .op)) OutOfRange ∷ when (sets-unused f) OutOfRange ∷ when (unknown-rule below f) NoSuchRule
+    when (ltb none-op (f .op)) OutOfRange ∷ when (sets-unused f) OutOfRange ∷ when (unknown-rule below f) NoSuchRule
     ∷ when (bad-width f) OutOfRange ∷ when (beyond n f) BeyondOptions ∷ when (overlap f) Conflict
     ∷ when (hides-many f) TooManyHidden ∷ []

@@ -5,6 +5,7 @@ use mathlib.Core.Bool.{cond}
 use mathlib.Core.List.{List, [], _∷_, _++_, map}
 use lib.ListN.{length}
 use Rattle.std.specs.Joined.{joined}
+use Rattle.entries.specs.Fields.{carry-op, product-op, either-op, selection-op, projection-op, complement-op, none-op}
 use Rattle.entries.specs.declared.entry.Entry.{Entry}
 use Rattle.entries.specs.declared.entry.Entry.the-variants as entry
 use Rattle.entries.specs.declared.fields.EntryFields.{EntryFields}
@@ -31,13 +32,13 @@ abbrev pub encode-sheet : List (List Wanted) → List ℕ
 encode-sheet cs = joined encode-clause cs
 
 abbrev pub fields-for : Entry → EntryFields
-fields-for (entry.Carry r) = record { op = 0; first = r; second = 0; third = 0; word = 0 }
-fields-for (entry.Product a b) = record { op = 1; first = a; second = b; third = 0; word = 0 }
-fields-for (entry.Either a b) = record { op = 2; first = a; second = b; third = 0; word = 0 }
-fields-for (entry.Selection r a b w) = record { op = 3; first = r; second = a; third = b; word = w }
-fields-for (entry.Projection r hidden) = record { op = 4; first = r; second = 0; third = 0; word = hidden }
-fields-for (entry.Complement r) = record { op = 5; first = r; second = 0; third = 0; word = 0 }
-fields-for entry.None = record { op = 6; first = 0; second = 0; third = 0; word = 0 }
+fields-for (entry.Carry r) = record { op = carry-op; first = r; second = 0; third = 0; word = 0 }
+fields-for (entry.Product a b) = record { op = product-op; first = a; second = b; third = 0; word = 0 }
+fields-for (entry.Either a b) = record { op = either-op; first = a; second = b; third = 0; word = 0 }
+fields-for (entry.Selection r a b w) = record { op = selection-op; first = r; second = a; third = b; word = w }
+fields-for (entry.Projection r hidden) = record { op = projection-op; first = r; second = 0; third = 0; word = hidden }
+fields-for (entry.Complement r) = record { op = complement-op; first = r; second = 0; third = 0; word = 0 }
+fields-for entry.None = record { op = none-op; first = 0; second = 0; third = 0; word = 0 }
 
 abbrev pub encode-fields : EntryFields → List ℕ
 encode-fields f = f .op ∷ f .first ∷ f .second ∷ f .third ∷ bytes-of 8 (f .word)
