@@ -3,6 +3,7 @@ ghost use mathlib.Core.List.{[]};
 ghost use mathlib.Core.Path.{_≡_};
 ghost use Prim.Native.Nat.{_≤_};
 ghost use Rattle.std.specs.Of.Vec.{vec-cap, vec-items, vec-len};
+ghost use Rattle.std.specs.Vec.{made};
 use crate::entry::Entry;
 use std::alloc::AllocError;
 use std::alloc::Global;
@@ -20,7 +21,9 @@ pub struct EntrySpace {
 
 impl EntrySpace {
     /// Reserves the room; the only call here that can fail for want of memory.
-    pub fn reserve(heap: Global) -> Result<EntrySpace, AllocError> {
+    pub fn reserve(heap: Global) -> Result<EntrySpace, AllocError>
+        ensures { λ r. ⌜ made r (λ s. (vec-items (s .entries) ≡ []) × (32 ≤ vec-cap (s .entries))) ⌝ }
+    {
         let entries = Vec::with_capacity(heap, MAX_ENTRIES)?;
         Ok(EntrySpace { entries })
     }

@@ -3,7 +3,7 @@ use entries::Entry;
 use std::io;
 use std::io::Write;
 
-pub fn write_entry<W: Write>(out: &mut W, entry: Entry) -> io::Result<()> {
+pub(crate) fn write_entry<W: Write>(out: &mut W, entry: Entry) -> io::Result<()> {
     match entry {
         Entry::Carry { rule } => write!(out, "carry of rule {rule}"),
         Entry::Product { first, second } => write!(out, "product of rules {first} and {second}"),

@@ -7,11 +7,11 @@ use std::io;
 use std::io::Read;
 
 // One byte more than the largest rule file, so that a longer one is seen to be longer.
-pub const LIMIT: usize = 32769;
+pub(crate) const LIMIT: usize = 32769;
 
 // Fills the buffer from the front and gives the number of bytes; none where the file cannot be read to its end or to
 // the end of the buffer.
-pub fn load(rt: &LibcRuntime, path: &str, buffer: &mut [u8]) -> usize
+pub(crate) fn load(rt: &LibcRuntime, path: &str, buffer: &mut [u8]) -> usize
     ensures { λ r. ⌜ r ≤ length (now (buffer .entry)) ⌝ }
 {
     match fill(rt, path, buffer) {

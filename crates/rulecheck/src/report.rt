@@ -13,7 +13,7 @@ use sheets::TableSheet;
 use std::io;
 use std::io::Write;
 
-pub fn report<W: Write>(out: &mut W, file: &RuleFile) -> io::Result<()> {
+pub(crate) fn report<W: Write>(out: &mut W, file: &RuleFile) -> io::Result<()> {
     let options = file.options();
     writeln!(out, "options {options}")?;
     write_start(out, file.start(), options)?;

@@ -27,7 +27,9 @@ pub struct Space<'a> {
 
 impl<'a> Space<'a> {
     /// Reserves the room; the only call here that can fail for want of memory.
-    pub fn reserve(heap: Global) -> Result<Space<'a>, AllocError> {
+    pub fn reserve(heap: Global) -> Result<Space<'a>, AllocError>
+        ensures { λ r. ⌜ made r (λ s. (vec-len (s .tables) ≡ 0) × (vec-len (s .clauses) ≡ 0) × (vec-len (s .folders) ≡ 0) × (32 ≤ vec-cap (s .tables)) × (32 ≤ vec-cap (s .clauses)) × (4 ≤ vec-cap (s .folders)) × (vec-len (s .spare) ≡ 4)) ⌝ }
+    {
         let tables = Vec::with_capacity(heap, SHEETS)?;
         let clauses = Vec::with_capacity(heap, SHEETS)?;
         let folders = Vec::with_capacity(heap, FOLDERS)?;
