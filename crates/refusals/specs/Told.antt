@@ -3,9 +3,7 @@ use Prim.Native.Nat.{ℕ}
 use Rattle.refusals.specs.declared.refusal.Refusal.{Refusal}
 use Rattle.refusals.specs.declared.layer.Layer.{Layer}
 use Rattle.refusals.specs.declared.layer.Layer.the-variants as layer
-use Rattle.refusals.specs.declared.fault.SheetFault.{SheetFault}
 use Rattle.refusals.specs.declared.fault.SheetFault.the-variants as sheet
-use Rattle.refusals.specs.declared.fault.FolderFault.{FolderFault}
 use Rattle.refusals.specs.declared.fault.FolderFault.the-variants as folder
 use Rattle.refusals.specs.declared.fault.FileFault.{FileFault}
 use Rattle.refusals.specs.declared.fault.FileFault.the-variants as file

@@ -1,5 +1,4 @@
 -- Contents that differ in one part, and a part that grew by one.
-use Prim.Native.Nat.{ℕ}
 use mathlib.Core.List.{List, [], _∷_, _++_, map}
 use mathlib.Core.Path.{_≡_, _∙_, ap}
 use Rattle.std.proofs.shelf.Lists.{map-push}

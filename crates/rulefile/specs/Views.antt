@@ -1,6 +1,6 @@
 -- What the values of the code stand for.
 use Prim.Native.Nat.{ℕ}
-use mathlib.Core.List.{List, map}
+use mathlib.Core.List.{List}
 use denote.Ref.{now}
 use Rattle.std.specs.Of.Vec.{vec-items}
 use Rattle.ruleformat.specs.Records.{kind, body}

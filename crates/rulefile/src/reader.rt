@@ -1,5 +1,4 @@
 // Reading a rule file record by record into room that was reserved before.
-ghost use mathlib.Core.Path.{_≡_};
 ghost use Prim.Native.Nat.{_+_, _<_, _≤_};
 ghost use Rattle.std.specs.Of.Vec.{vec-cap, vec-len};
 use assignment::Assignment;

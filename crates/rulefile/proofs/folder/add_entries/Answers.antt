@@ -1,10 +1,10 @@
 -- One entry decides, or is added and leaves it to the entries that follow.
-use mathlib.Core.Path.{_≡_, refl, sym, _∙_, ap, subst}
+use mathlib.Core.Path.{_≡_, sym, _∙_, ap, subst}
 use mathlib.Core.List.{List, [], _∷_, _++_, map}
 use Prim.Native.Nat.{ℕ, _+_, _*_, _<_, _≤_}
 use native.Mathlib.Omega.{arith}
 use lib.ListN.{length, drop}
-use Rattle.std.specs.Of.Vec.{vec-items, vec-len}
+use Rattle.std.specs.Of.Vec.{vec-len}
 use Rattle.std.specs.declared.result.Result.the-variants.{Ok, Err}
 use Rattle.std.proofs.shelf.Lists.{append-assoc, length-drop, length-push, take-rest}
 use Rattle.std.proofs.shelf.Tests.{le-ltb, lt-leb, ne-eqb}
@@ -12,7 +12,7 @@ use Rattle.refusals.specs.Checks.{judged, within}
 use Rattle.refusals.specs.declared.refusal.Refusal.{Refusal}
 use Rattle.refusals.proofs.Judged.{judged-passes, judged-stops, judged-within-err, judged-within-ok}
 use Rattle.entries.specs.Drafts.{draft-checks}
-use Rattle.entries.specs.Fields.{entry-checks, entry-of}
+use Rattle.entries.specs.Fields.{entry-checks}
 use Rattle.entries.specs.declared.draft.Draft.{Draft}
 use Rattle.entries.specs.declared.fields.EntryFields.{EntryFields}
 use Rattle.ruleformat.specs.Folders.{at-entry, entries-checks, entries-of, entry-in, entry-pieces, entry-size, fields-of}

@@ -1,7 +1,7 @@
 -- What is left of the entries decides as the whole does, and with the entries added makes up the folder.
 use mathlib.Core.Path.{_≡_}
 use mathlib.Core.List.{_++_}
-use Prim.Native.Nat.{_+_, _*_, _%_, _≤_}
+use Prim.Native.Nat.{_+_, _*_}
 use lib.ListN.{length}
 use Rattle.refusals.specs.Checks.{judged}
 use Rattle.ruleformat.specs.Folders.{entries-checks, entries-of, entry-pieces}

@@ -1,5 +1,5 @@
 -- One wanted value decides, or leaves it to the values that follow.
-use mathlib.Core.Path.{_≡_, sym, _∙_}
+use mathlib.Core.Path.{sym, _∙_}
 use mathlib.Core.List.{List}
 use Prim.Native.Nat.{ℕ, _/_, _%_}
 use lib.ListN.{getD}

@@ -1,5 +1,5 @@
 -- The end of the first clause, or of the bytes where it is cut.
-use mathlib.Core.Path.{_≡_, sym, _∙_}
+use mathlib.Core.Path.{sym, _∙_}
 use native.Mathlib.Omega.{arith}
 use lib.ListN.{length, getD}
 use Rattle.std.proofs.shelf.Lists.{nil-from-length, take-rest}

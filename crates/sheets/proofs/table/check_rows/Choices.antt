@@ -1,6 +1,6 @@
 -- What is left of the rows decides as the whole does.
 use mathlib.Core.Path.{_≡_}
-use Prim.Native.Nat.{_%_, _+_, _*_, _≤_}
+use Prim.Native.Nat.{_%_, _+_, _≤_}
 use lib.ListN.{length}
 use Rattle.refusals.specs.Checks.{judged}
 use Rattle.ruleformat.specs.Tables.{row-checks, rows-in}

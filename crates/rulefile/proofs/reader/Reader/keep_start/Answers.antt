@@ -1,5 +1,5 @@
 -- A refused start is refused as the start's checks say.
-use mathlib.Core.Path.{_≡_, sym, _∙_}
+use mathlib.Core.Path.{sym}
 use Rattle.std.proofs.shelf.Results.{err-from-errBy, made-from-err}
 use Rattle.refusals.proofs.Judged.{judged-err}
 use Rattle.ruleformat.specs.Starts.{start-checks}

@@ -1,10 +1,8 @@
 -- One record decides, or leaves it to the records that follow.
-use mathlib.Core.Path.{_≡_, refl, sym, _∙_, ap, subst}
-use mathlib.Core.Bool.{false}
+use mathlib.Core.Path.{_≡_, sym, _∙_, ap}
 use mathlib.Core.List.{List, _∷_}
-use Prim.Native.Nat.{ℕ, _-_, _<_, _≤_}
+use Prim.Native.Nat.{ℕ, _-_, _<_}
 use native.Mathlib.Omega.{arith}
-use lib.Dec.{ltb}
 use lib.ListN.{length, drop}
 use Rattle.std.specs.declared.result.Result.the-variants.{Ok, Err}
 use Rattle.std.proofs.shelf.Lists.{length-drop}
@@ -13,12 +11,11 @@ use Rattle.std.proofs.shelf.Tests.{eqb-false, le-ltb, lt-ltb}
 use Rattle.refusals.specs.Checks.{judged}
 use Rattle.refusals.specs.declared.fault.FileFault.{FileFault}
 use Rattle.refusals.proofs.Judged.{judged-passes, judged-stops, judged-value}
-use Rattle.ruleformat.specs.Contents.{Contents, nothing}
-use Rattle.ruleformat.specs.Reading.{checks-from, contents, held-from, record-checks, with-record}
+use Rattle.ruleformat.specs.Contents.{Contents}
+use Rattle.ruleformat.specs.Reading.{checks-from, held-from, record-checks, with-record}
 use Rattle.ruleformat.specs.Records.{body, kind, record-size, records}
 use Rattle.ruleformat.proofs.Pieces.{pieces-more}
-use Rattle.rulefile.specs.Held.{Paired, held}
-use Rattle.rulefile.specs.declared.reader.Reader.{Reader}
+use Rattle.rulefile.specs.Held.{held}
 use Rattle.rulefile.proofs.reader.steps.read_records.Needs as need
 
 module _ (total before : ℕ) (c : Contents) (rest : List ℕ) (some : 0 < length rest) where

@@ -1,5 +1,5 @@
 -- First the shape decides, then the clauses.
-use mathlib.Core.Path.{_≡_, sym, _∙_, ap}
+use mathlib.Core.Path.{sym, _∙_}
 use Rattle.std.proofs.shelf.Results.{err-from-errBy}
 use Rattle.refusals.specs.Checks.{when}
 use Rattle.refusals.specs.declared.refusal.Refusal.the-variants.{Unfit}

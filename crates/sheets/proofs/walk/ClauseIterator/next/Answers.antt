@@ -1,5 +1,5 @@
 -- The first wanted value, and those that follow it.
-use mathlib.Core.Path.{_≡_, sym, _∙_, ap}
+use mathlib.Core.Path.{sym, _∙_, ap}
 use mathlib.Core.List.{_∷_, map}
 use Prim.Native.Nat.{_<_}
 use native.Mathlib.Omega.{arith}

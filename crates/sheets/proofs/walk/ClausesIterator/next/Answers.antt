@@ -1,5 +1,5 @@
 -- The first clause, and those that follow it.
-use mathlib.Core.Path.{_≡_, sym, _∙_, ap}
+use mathlib.Core.Path.{sym, _∙_, ap}
 use mathlib.Core.List.{_∷_, map}
 use native.Mathlib.Omega.{arith}
 use borrow.Author.Needs.{needs}

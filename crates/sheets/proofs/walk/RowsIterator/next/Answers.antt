@@ -1,5 +1,5 @@
 -- The first row, and those that follow it.
-use mathlib.Core.Path.{_≡_, sym, _∙_, ap}
+use mathlib.Core.Path.{sym, _∙_, ap}
 use mathlib.Core.List.{map, _∷_}
 use Prim.Native.Nat.{_<_}
 use native.Mathlib.Omega.{arith}
