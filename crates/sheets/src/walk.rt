@@ -18,7 +18,7 @@ pub struct Rows<'a> {
 pub impl Iterator for Rows<'_> as RowsIterator {
     type Item = u16;
 
-    ghost steps = { λ s r t. Cases r (rows-in (now (s .rest)) ≡ []) (λ row. rows-in (now (s .rest)) ≡ row ∷ rows-in (now (t .rest))) };
+    ghost steps = { λ s r t. Cases r ((rows-in (now (s .rest)) ≡ []) × (now (t .rest) ≡ now (s .rest))) (λ row. rows-in (now (s .rest)) ≡ row ∷ rows-in (now (t .rest))) };
 
     ghost ends = { λ _. Unit {0} };
 
@@ -47,7 +47,7 @@ pub struct Clauses<'a> {
 pub impl<'a> Iterator for Clauses<'a> as ClausesIterator {
     type Item = Clause<'a>;
 
-    ghost steps = { λ s r t. Cases r (clauses-of (now (s .rest)) ≡ []) (λ clause. clauses-of (now (s .rest)) ≡ map wanted-of (now (clause .rest)) ∷ clauses-of (now (t .rest))) };
+    ghost steps = { λ s r t. Cases r ((clauses-of (now (s .rest)) ≡ []) × (now (t .rest) ≡ now (s .rest))) (λ clause. clauses-of (now (s .rest)) ≡ map wanted-of (now (clause .rest)) ∷ clauses-of (now (t .rest))) };
 
     ghost ends = { λ _. Unit {0} };
 
@@ -92,7 +92,7 @@ impl Wanted {
 pub impl Iterator for Clause<'_> as ClauseIterator {
     type Item = Wanted;
 
-    ghost steps = { λ s r t. Cases r (map wanted-of (now (s .rest)) ≡ []) (λ w. map wanted-of (now (s .rest)) ≡ wanted-view w ∷ map wanted-of (now (t .rest))) };
+    ghost steps = { λ s r t. Cases r ((map wanted-of (now (s .rest)) ≡ []) × (now (t .rest) ≡ now (s .rest))) (λ w. map wanted-of (now (s .rest)) ≡ wanted-view w ∷ map wanted-of (now (t .rest))) };
 
     ghost ends = { λ _. Unit {0} };
 

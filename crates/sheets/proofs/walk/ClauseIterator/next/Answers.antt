@@ -15,10 +15,8 @@ use Rattle.sheets.proofs.walk.ClauseIterator.next.Needs as need
 pub returns-then-is-empty : need.returns-then-is-empty
 returns-then-is-empty c =
     let rest = c .args .self .now .rest .now in
-    record {
-      steps = ap (map wanted-of) (nil-from-length rest (eqb-true (length rest) 0 (sym (c .if-is-empty .ensures tt))));
-      goes = search needs;
-    }
+    let none = nil-from-length rest (eqb-true (length rest) 0 (sym (c .if-is-empty .ensures tt))) in
+    record { steps = (ap (map wanted-of) none, search needs); goes = search needs }
 
 pub returns : need.returns
 returns c =
