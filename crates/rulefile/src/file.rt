@@ -1,9 +1,9 @@
 // What an accepted rule file holds.
 ghost use mathlib.Core.Path.{_≡_};
-ghost use mathlib.Core.List.{map};
+ghost use Prim.Native.Nat.{_<_, _≤_};
+ghost use lib.ListN.{getD};
 ghost use Rattle.std.specs.Of.Vec.{vec-items, vec-len};
-ghost use Rattle.std.specs.Options.{mapped};
-ghost use Rattle.std.specs.Runs.{nth};
+ghost use Rattle.std.specs.Options.{Cases};
 ghost use Rattle.rulefile.specs.Views.{drafted};
 use assignment::Assignment;
 use entries::Draft;
@@ -62,7 +62,7 @@ impl<'a> RuleFile<'a> {
 
     /// The entries of a folder, counted from the lowest; none where there is no such folder.
     pub fn folder(&self, index: usize) -> Option<&[Entry]>
-        ensures { λ r. ⌜ mapped now r ≡ nth (map drafted (vec-items (now (self .entry) .folders))) index ⌝ }
+        ensures { λ r. ⌜ Cases r (vec-len (now (self .entry) .folders) ≤ index) (λ es. (index < vec-len (now (self .entry) .folders)) × ((d : Draft) → now es ≡ drafted (getD (vec-items (now (self .entry) .folders)) index d))) ⌝ }
     {
         match self.folders.get(index) {
             Some(folder) => Some(folder.entries()),
