@@ -1,5 +1,6 @@
 -- The laws of assignments. What is built on assignments cites these, and looks no further down than options.
 use Rattle.std.specs.Prelude.{◌≡◌, ℕ, ◌+◌, ◌-◌, ◌%◌, ◌^◌, ◌<◌, ◌≤◌, Bool, true, false, cond, not, ◌&&◌, ◌||◌, ltb, ◌⊎◌, ◌==◌, ◌≢◌, bit_and, bit_or, nat_le, nat_lt, refl}
+use Rattle.std.specs.Cmp.{IsPartialEquivalence}
 use Rattle.std.proofs.Math.Bridge.{le_prop}
 use Rattle.std.proofs.Common.{add_comm, lt_of_le_of_lt, arith, inl, inr, sym, ap, ap₂, subst, ◌∙◌}
 use Rattle.std.specs.Bool.{beq}
@@ -395,6 +396,19 @@ unfolding same
 true_same a b e =
     and_from (a.yes == b.yes) (a.no == b.no) (eq-eqb a.yes b.yes (ap (λ c. c.yes) e))
     (eq-eqb a.no b.no (ap (λ c. c.no) e))
+
+-- `same` answers alike from both sides, and along a chain
+pub same_laws : IsPartialEquivalence same
+same_laws =
+    record {
+      symm = λ a b. both_alike (same a b) (same b a) (λ e. true_same b a (sym (same_true a b e))) (λ e. true_same a b (sym (same_true b a e)));
+      trans = λ a b c d e. true_same a c (same_true a b d ∙ same_true b c e);
+    }
+  where
+    both_alike : (p q : Bool) → (p ≡ true → q ≡ true) → (q ≡ true → p ≡ true) → p ≡ q
+    both_alike true q f g = sym (f refl)
+    both_alike false true f g = g refl
+    both_alike false false f g = refl
 
 -- hidden options
 

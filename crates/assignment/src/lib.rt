@@ -1,4 +1,6 @@
 // Partial assignments: what is known of each of the 64 options. Uses no other crate.
+#![tactic(auto)]
+
 mod assignment;
 mod mask;
 mod value;

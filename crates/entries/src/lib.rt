@@ -1,4 +1,6 @@
 // Folder entries, and the draft that checks and keeps them. Uses `assignment` and `refusals`.
+#![tactic(auto)]
+
 mod draft;
 mod entry;
 mod fields;

@@ -1,5 +1,7 @@
 // Sheets and projections over them, as functions that Rust or C can call: each answers a list of questions. Uses
 // `assignment`, `refusals`, `ruleset`, `entries`, `folders`, `ruleformat`, `sheets` and `sheet_rules`.
+#![tactic(auto)]
+
 mod asking;
 mod clauses;
 mod failure;

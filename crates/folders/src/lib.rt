@@ -1,5 +1,7 @@
 // Folders: sets of rules made of the rules just below, one over the other to any height. Uses `assignment`, `refusals`,
 // `entries` and `ruleset`.
+#![tactic(auto)]
+
 mod folder;
 mod hidden;
 mod laws;

@@ -1,4 +1,6 @@
 // Why something is refused, by number, and the faults of a rule file, layer in layer. Uses no other crate.
+#![tactic(auto)]
+
 mod fault;
 mod layer;
 mod refusal;

@@ -1,4 +1,6 @@
 // Reads the rule file RULES and says what it holds, or where and why it is bad.
+#![tactic(auto)]
+
 use refusals::FileFault;
 use rulefile::{Space, read};
 use std::io;

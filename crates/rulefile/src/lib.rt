@@ -1,5 +1,7 @@
 // Reading a rule file: its records, its contents, and the fault where it is refused. Uses `assignment`, `refusals`,
 // `entries`, `ruleformat` and `sheets`.
+#![tactic(auto)]
+
 mod bytes;
 mod file;
 mod folder;

@@ -1,5 +1,7 @@
 // Tests of `rulefile`, `sheets` and `entries` against docs/FORMAT.md and docs/REFUSALS.md. What they expect is worked
 // out from those pages by hand.
+#![tactic(auto)]
+
 #[cfg(test)]
 mod build;
 #[cfg(test)]

@@ -1,4 +1,6 @@
 // The rule file's format: what a file holds, how it is encoded, and how it is checked. Uses `refusals` and `entries`.
+#![tactic(auto)]
+
 ghost use Rattle.ruleformat.specs.Laws.{AcceptedIsEncoded, EncodedIsAccepted, RefusedByFirst};
 ghost use Rattle.ruleformat.specs.Sample.{Sample};
 

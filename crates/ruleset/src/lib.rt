@@ -1,4 +1,6 @@
 // Sets of rules: what they promise, and what they make of an assignment. Uses `assignment`.
+#![tactic(auto)]
+
 mod closing;
 mod rules;
 mod search;

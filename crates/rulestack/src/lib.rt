@@ -1,4 +1,6 @@
 // The rules of a file: four folders over its table sheets beside its clause sheets. Uses all the libraries before it.
+#![tactic(auto)]
+
 mod building;
 mod laws;
 mod space;

@@ -1,4 +1,6 @@
 // Table sheets and clause sheets as rules. Uses `assignment`, `ruleset`, `ruleformat`, `refusals` and `sheets`.
+#![tactic(auto)]
+
 mod clause;
 mod clauses;
 mod common;

@@ -3,8 +3,7 @@ ghost use Rattle.std.specs.Prelude.{◌≡◌, ℕ, ◌<◌, Bool, true, not, �
 ghost use Rattle.std.specs.Bool.{beq};
 ghost use Rattle.assignment.specs.Knows.{has, knows, Build, KnownOutside};
 ghost use Rattle.assignment.specs.Lattice.{contradiction, copied, equate, join, known_outside, meet, no_from, outside, put, same, total, whole, within};
-ghost use Rattle.std.specs.Cmp.Rules.{comparing};
-ghost use Rattle.std.proofs.Common.{rules, arith};
+ghost use Rattle.assignment.specs.Laws.{same_laws};
 
 use super::Assignment;
 use crate::mask::{
@@ -148,11 +147,14 @@ impl Assignment {
 }
 
 impl PartialEq for Assignment {
-    ghost equals = { λ a b r. (r ≡ same a b) × Decides r (a ≡ b) };
+    ghost eq = { same };
 
-    ghost laws = { first_of (Prim.search (comparing, rules), Prim.grind (arith, Self.row.coded.inj)) };
+    ghost laws = { same_laws };
 
-    fn eq(&self, other: &Assignment) -> bool {
+    fn eq(&self, other: &Assignment) -> bool
+        ensures answer { result ≡ same self.now other.now }
+        ensures equal { Decides result (self.now ≡ other.now) }
+    {
         is_same(self.yes, other.yes) && is_same(self.no, other.no)
     }
 }

@@ -13,4 +13,4 @@ returns-then-first-ge64 c =
 pub returns : goal.returns
 returns c =
     let inside : c.args.first < 64 = omega arith in
-    c.is-at-least.ensures ∙ ap (λ b. leb b c.args.mask) (one_shl c.args.first 64 inside)
+    c.is_at_least.ensures ∙ ap (λ b. leb b c.args.mask) (one_shl c.args.first 64 inside)

@@ -13,4 +13,4 @@ returns-then-from-ge64 c =
 
 pub returns : goal.returns
 unfolding moved
-returns c = ap (λ n. n * 2 ^ c.args.to % 2 ^ 64) c.low-bits.ensures
+returns c = ap (λ n. n * 2 ^ c.args.to % 2 ^ 64) c.low_bits.ensures

@@ -7,10 +7,10 @@ use Rattle.sheet_rules.specs.RuleSets.{clauses_in}
 use Rattle.facade.proofs.Passing.{passes_err, passes_ok}
 use Rattle.facade.proofs.clauses.clause_rules.Goals as goal
 
-pub returns-in-default : goal.returns-in-default
-returns-in-default c =
+pub returns-in_default : goal.returns-in_default
+returns-in_default c =
     let bytes = c.args.body.now in
-    λ _. passes_err (clauses_checks c.args.options 0 bytes) bytes c.in-default.field-0 (sym c.in-default.ensures)
+    λ _. passes_err (clauses_checks c.args.options 0 bytes) bytes c.in_default.field-0 (sym c.in_default.ensures)
 
 pub returns : goal.returns
 returns c =
@@ -19,7 +19,7 @@ returns c =
     let checks = clauses_checks c.args.options 0 bytes in
     let ok = sym c.in-Ok.ensures in
     let items =
-    c.push-reserved.ensures.items ∙ ap (λ l. l ++ sheet ∷ []) c.in-Ok-with-capacity.ensures.made.0 in (
+    c.push_reserved.ensures.items ∙ ap (λ l. l ++ sheet ∷ []) c.in-Ok-with_capacity.ensures.made.0 in (
       passes_ok checks bytes (clause_body sheet) ok,
       c.new.ensures ∙ ap (map clauses_in) items ∙ ap (λ b. clauses_of b ∷ []) (judged_value checks bytes (clause_body sheet) ok),
     )

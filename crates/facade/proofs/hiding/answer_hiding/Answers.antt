@@ -17,7 +17,7 @@ returns-in-Ok g c =
     inl (
       refl,
       told.0,
-      c.answer-all.ensures
+      c.answer_all.ensures
           ∙ ap (λ (d : Draft). answered ((folder (drafted d) (mean laid.below)).reply 0) masks) c.lay-folder.ensures.draft
           ∙ ap (λ (es : List Entry). answered ((folder es (mean laid.below)).reply 0) masks) told.1
           ∙ ap (λ b. answered ((folder (Projection 0 c.args.hidden ∷ []) (mean b)).reply 0) masks) c.lay-folder.ensures.below,

@@ -10,12 +10,12 @@ pub returns : goal.returns
 returns g c =
     let f = (g.R.RuleSet.meaning c.args.below.now).reply c.args.rule in
     let listed =
-    ap (λ k. take k c.list-options-count.new.list) (sub-zero c.list-options-count.result)
-    ∙ c.list-options-count.ensures.options in
+    ap (λ k. take k c.list_options-count.new.list) (sub-zero c.list_options-count.result)
+    ∙ c.list_options-count.ensures.options in
     record {
       answer =
-          c.finds-build.ensures.fills (subst Below (sym listed) (hidden_below c.args.hidden))
+          c.finds_build.ensures.fills (subst Below (sym listed) (hidden_below c.args.hidden))
           (subst (λ os. Covers os c.args.shown) (sym listed) c.requires)
           ∙ ap (λ os. fills f os c.args.shown) listed;
-      same = c.finds-build.ensures.same;
+      same = c.finds_build.ensures.same;
     }

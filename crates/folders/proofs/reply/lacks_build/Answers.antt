@@ -11,4 +11,4 @@ fits-requires g c =
     let a = c.args.question in
     let hidden = c.args.hidden in
     subst (Covers (options_in hidden)) (sym c.without.ensures.answer)
-    (hidden_covers hidden a (known_outside_at hidden a (sym c.if-not-is-known-without.ensures.answer)))
+    (hidden_covers hidden a (known_outside_at hidden a (sym c.if-not-is_known_without.ensures.answer)))

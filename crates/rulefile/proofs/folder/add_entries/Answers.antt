@@ -55,7 +55,7 @@ returns-in-Err c =
     let below = c.args.draft.now.below in
     let room : vec_len d.entries < 32 = omega (arith, d.entries.ok.0) in
     let some : 0 < length xs = omega arith in
-    let own = added d c.read-fields.result n below xs c.read-fields.ensures inv.3 inv.4 room c.requires.told.0 c.requires.told.1 in
+    let own = added d c.read_fields.result n below xs c.read_fields.ensures inv.3 inv.4 room c.requires.told.0 c.requires.told.1 in
     let e = entry_stops n below c.args.place c.loop-rest.item xs some c.in-Err.refusal (sym own ∙ sym c.add.ensures.answer ∙ c.in-Err.is) in
     record { answer = sym e ∙ inv.0; entries = tt }
 
@@ -70,9 +70,9 @@ loop-rest-preserved c =
     let place = c.args.place in
     let room : vec_len d.entries < 32 = omega (arith, d.entries.ok.0) in
     let some : 0 < length xs = omega arith in
-    let own = added d c.read-fields.result n below xs c.read-fields.ensures inv.3 inv.4 room c.requires.told.0 c.requires.told.1 in
-    let e = entry_passes n below place c.loop-rest.item xs some (sym own ∙ sym c.add.ensures.answer ∙ c.in-default.is) in
-    let grown : drafted d' ≡ drafted d ++ entry_in xs ∷ [] = rw (c.in-default.is, c.read-fields.ensures) at c.add.ensures.entries in
+    let own = added d c.read_fields.result n below xs c.read_fields.ensures inv.3 inv.4 room c.requires.told.0 c.requires.told.1 in
+    let e = entry_passes n below place c.loop-rest.item xs some (sym own ∙ sym c.add.ensures.answer ∙ c.in_default.is) in
+    let grown : drafted d' ≡ drafted d ++ entry_in xs ∷ [] = rw (c.in_default.is, c.read_fields.ensures) at c.add.ensures.entries in
     let all =
     ap (λ es. es ++ entries_of (drop 12 xs)) grown ∙ append_assoc (drafted d) (entry_in xs ∷ []) (entries_of (drop 12 xs))
     ∙ ap (λ ps. drafted d ++ map entry_in ps) (sym (split n below place 0 xs some)) ∙ inv.1 in

@@ -2,5 +2,5 @@
 use Rattle.std.proofs.Common.{length}
 use Rattle.ruleset.proofs.search.+finds_below.Given as goal
 
-abbrev pub decreases-finds-below : goal.decreases-finds-below
-decreases-finds-below g l = length l.options.now
+abbrev pub decreases-finds_below : goal.decreases-finds_below
+decreases-finds_below g l = length l.options.now

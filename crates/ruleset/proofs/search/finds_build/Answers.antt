@@ -15,9 +15,9 @@ returns g c =
     let os = c.args.options.now in
     let known = c.args.known in
     let found =
-    c.finds-below.ensures.answer
+    c.finds_below.ensures.answer
     ∙ finds_same c.args.rule os c.closure-settled.ensures.same c.closure-settled.ensures.answer in
-    let filled : Below os → Covers os known → c.finds-below.result ≡ fills f os known =
+    let filled : Below os → Covers os known → c.finds_below.result ≡ fills f os known =
     λ below covers. found ∙ search_fills f (lawful_rule (g.R.RuleSet.lawful rules) c.args.rule) os below known covers in
     record {
       answer = found;
@@ -26,5 +26,5 @@ returns g c =
           λ below covers.
           Decides-at _ _ (filled below covers)
           ((fills_builds f os known).0, λ b. (fills_builds f os known).1 below covers b.0 b.1);
-      same = c.finds-below.ensures.same ∙ c.closure-settled.ensures.same;
+      same = c.finds_below.ensures.same ∙ c.closure-settled.ensures.same;
     }

@@ -11,7 +11,7 @@ use Rattle.rulestack.proofs.building.build.Goals as goal
 
 pub lay-one-requires : goal.lay-one-requires
 lay-one-requires c =
-    let parts = c.into-parts-options.ensures in
+    let parts = c.into_parts-options.ensures in
     few_sheets c.args.file c.new-sheets.result
     (beside c.args.file c.new-sheets.ensures.first c.new-sheets.ensures.second
     (c.new.ensures ∙ ap (λ v. map table_in (vec_items v)) parts.tables)
@@ -30,7 +30,7 @@ lay-requires c = few_rules c.lay-three.result.draft (over (over sheets_mean) c.l
 all_taken : (c : goal.After-drop-drafts) → length (into_iter_items c.next-4.new.self) ≡ 0
 all_taken c =
     let file = c.args.file in
-    let it = c.into-iter-drafts.result in
+    let it = c.into_iter-drafts.result in
     let it₁ = c.next.new.self in
     let it₂ = c.next-2.new.self in
     let it₃ = c.next-3.new.self in
@@ -39,23 +39,23 @@ all_taken c =
     let s₂ = one_less c.next-2.result (into_iter_len it₁) (into_iter_len it₂) (λ x. into_iter_items it₁ ≡ x ∷ into_iter_items it₂) c.next-2.ensures.cases in
     let s₃ = one_less c.next-3.result (into_iter_len it₂) (into_iter_len it₃) (λ x. into_iter_items it₂ ≡ x ∷ into_iter_items it₃) c.next-3.ensures.cases in
     let s₄ = one_less c.next-4.result (into_iter_len it₃) (into_iter_len it₄) (λ x. into_iter_items it₃ ≡ x ∷ into_iter_items it₄) c.next-4.ensures.cases in
-    let whole = c.into-iter-drafts.ensures.len ∙ ap (λ v. vec_len v) c.into-parts-options.ensures.folders in
+    let whole = c.into_iter-drafts.ensures.len ∙ ap (λ v. vec_len v) c.into_parts-options.ensures.folders in
     omega (arith, s₁, s₂, s₃, s₄, whole, file.low, it₄.rest.ok.0)
 
 pub returns : goal.returns
 returns c =
     let file = c.args.file in
-    let parts = c.into-parts-options.ensures in
+    let parts = c.into_parts-options.ensures in
     let m = sheets_mean c.new-sheets.result in
     let d₂ = c.next-2.result in
     let d₃ = c.next-3.result in
     let d₄ = c.next-4.result in
-    let it = into_iter_items c.into-iter-drafts.result in
+    let it = into_iter_items c.into_iter-drafts.result in
     let taken =
     four_laid m it (into_iter_items c.next.new.self) (into_iter_items c.next-2.new.self)
     (into_iter_items c.next-3.new.self) (into_iter_items c.next-4.new.self) c.next.result d₂ d₃ d₄
     c.next.ensures.items c.next-2.ensures.items c.next-3.ensures.items c.next-4.ensures.items (all_taken c) in
-    let drafts = c.into-iter-drafts.ensures.rest ∙ ap (λ v. vec_items v) parts.folders in
+    let drafts = c.into_iter-drafts.ensures.rest ∙ ap (λ v. vec_items v) parts.folders in
     c.lay.ensures ∙ ap (laid d₄) c.lay-three.ensures ∙ ap (λ n. laid d₄ (laid d₃ n)) c.lay-two.ensures
     ∙ ap (λ n. laid d₄ (laid d₃ (laid d₂ n))) c.lay-one.ensures ∙ taken
     ∙ ap (λ ds. stack (map drafted ds) m) drafts

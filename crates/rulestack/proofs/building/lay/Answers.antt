@@ -19,6 +19,6 @@ returns-in-None g c =
     let m = g.R.RuleSet.meaning c.args.below in
     let over = c.lay-in-None.result.below in
     ap (λ d. folder (drafted d) (g.R.RuleSet.meaning over)) c.lay-in-None.ensures.draft
-    ∙ ap (λ r. folder (drafted c.carry-all-carried.result) (g.R.RuleSet.meaning r)) c.lay-in-None.ensures.below
-    ∙ ap (λ es. folder es m) c.carry-all-carried.ensures
+    ∙ ap (λ r. folder (drafted c.carry_all-carried.result) (g.R.RuleSet.meaning r)) c.lay-in-None.ensures.below
+    ∙ ap (λ es. folder es m) c.carry_all-carried.ensures
     ∙ carried m (g.R.RuleSet.lawful c.args.below) c.requires ∙ sym (ap (λ o. laid o m) c.in-None.is)

@@ -34,4 +34,4 @@ loop-wanted-preserved c =
 
 pub returns : goal.returns
 unfolding left
-returns c = sym c.loop-wanted.invariant.2 ∙ ap (left c.args.question) c.in-default.ensures.steps.0
+returns c = sym c.loop-wanted.invariant.2 ∙ ap (left c.args.question) c.in_default.ensures.steps.0

@@ -19,25 +19,25 @@ none_left asked ws cs a e =
     (refines_trans (add_clauses_above asked cs (join a (added_by_clause asked ws)))
     (refines_trans (join_right a (added_by_clause asked ws)) (refines_equal (ap forced e))))
 
-pub returns-then-is-inconsistent : goal.returns-then-is-inconsistent
+pub returns-then-is_inconsistent : goal.returns-then-is_inconsistent
 unfolding clauses_reply
-returns-then-is-inconsistent c =
+returns-then-is_inconsistent c =
     let question = c.args.question in
     let other = add_clauses question (clauses_in c.args.sheet.now) question in
     c.contradiction.ensures.answer
-    ∙ sym (cond-true (inconsistent question) contradiction other (sym c.if-is-inconsistent.ensures.answer))
+    ∙ sym (cond-true (inconsistent question) contradiction other (sym c.if-is_inconsistent.ensures.answer))
 
-pub returns-in-default : goal.returns-in-default
-returns-in-default c =
+pub returns-in_default : goal.returns-in_default
+returns-in_default c =
     let question = c.args.question in
     let reply = c.loop-clause.reply in
     let rest = clauses_of c.next.new.self.rest.now in
     let clause = map wanted_of c.in-Some.clause.rest.now in
-    let all = ap (λ it. it.rest.now) c.into-iter-clause-iterator.ensures.into-iter-gives ∙ c.clauses-clause-items.ensures in
-    c.contradiction-in-default.ensures.answer ∙ sym (none_left question clause rest reply c.in-default.ensures)
+    let all = ap (λ it. it.rest.now) c.into_iter-clause-iterator.ensures.into_iter-gives ∙ c.clauses-clause-items.ensures in
+    c.contradiction-in_default.ensures.answer ∙ sym (none_left question clause rest reply c.in_default.ensures)
     ∙ sym (ap (λ cs. add_clauses question cs reply) c.in-Some.ensures.steps) ∙ c.loop-clause.invariant.2
     ∙ ap (λ body. add_clauses question (clauses_of body) question) all
-    ∙ sym (consistent_reply (clauses_in c.args.sheet.now) question (sym c.if-is-inconsistent.ensures.answer))
+    ∙ sym (consistent_reply (clauses_in c.args.sheet.now) question (sym c.if-is_inconsistent.ensures.answer))
 
 pub loop-clause-preserved : goal.loop-clause-preserved
 unfolding add_clauses
@@ -45,7 +45,7 @@ loop-clause-preserved c =
     let question = c.args.question in
     let reply = c.loop-clause.reply in
     let rest = clauses_of c.next.new.self.rest.now in
-    let adds = c.join-reply.ensures.answer ∙ ap (join reply) c.in-Some-clause-adds.ensures in (
+    let adds = c.join-reply.ensures.answer ∙ ap (join reply) c.in-Some-clause_adds.ensures in (
       tt,
       tt,
       ap (add_clauses question rest) adds
@@ -56,7 +56,7 @@ pub returns : goal.returns
 unfolding add_clauses
 returns c =
     let question = c.args.question in
-    let all = ap (λ it. it.rest.now) c.into-iter-clause-iterator.ensures.into-iter-gives ∙ c.clauses-clause-items.ensures in
+    let all = ap (λ it. it.rest.now) c.into_iter-clause-iterator.ensures.into_iter-gives ∙ c.clauses-clause-items.ensures in
     sym (ap (λ cs. add_clauses question cs c.loop-clause.reply) c.in-None.ensures.steps.0)
     ∙ c.loop-clause.invariant.2 ∙ ap (λ body. add_clauses question (clauses_of body) question) all
-    ∙ sym (consistent_reply (clauses_in c.args.sheet.now) question (sym c.if-is-inconsistent.ensures.answer))
+    ∙ sym (consistent_reply (clauses_in c.args.sheet.now) question (sym c.if-is_inconsistent.ensures.answer))

@@ -18,7 +18,7 @@ loop-row-preserved c =
       tt,
       λ cs a e.
           let rest = rows_in c.next.new.self.rest.now in
-          let kept = c.gather-row-common.ensures
+          let kept = c.gather_row-common.ensures
           ∙ ap (λ b. cond b (Some (with_row before row)) before) (ap (λ k. fits k row) e ∙ fits_agrees row small cs a) in
           ap (λ d. gathered d (agreeing cs rest a)) kept ∙ sym (gathered_step cs a before row rest)
           ∙ sym (ap (λ rows. gathered before (agreeing cs rows a)) c.in-Some.ensures.steps) ∙ c.loop-row.invariant.2 cs a e,
@@ -30,6 +30,6 @@ returns c =
     let question = c.args.question in
     let columns = columns_of (table_body c.args.sheet.now) in
     let known = c.of-known.ensures ∙ ap (λ cs. known_of cs question) c.columns.ensures in
-    let all = ap (λ it. rows_in it.rest.now) c.into-iter-row-iterator.ensures.into-iter-gives ∙ c.rows-row-items.ensures in
+    let all = ap (λ it. rows_in it.rest.now) c.into_iter-row-iterator.ensures.into_iter-gives ∙ c.rows-row-items.ensures in
     sym (ap (λ rows. gathered c.loop-row.common (agreeing columns rows question)) c.in-None.ensures.steps.0)
     ∙ c.loop-row.invariant.2 columns question known ∙ ap (λ rows. gathered None (agreeing columns rows question)) all

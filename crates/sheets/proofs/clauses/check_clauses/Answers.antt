@@ -20,12 +20,12 @@ module _ (n place i : ℕ) (xs : List ℕ) (some : 0 < length xs) where
       ap (λ ps. judged (clause_checks n place i ps) (tt {0})) (pieces_more clause_size xs some (omega arith))
       ∙ judged_stops (tt {0}) (tt {0}) (wanted_checks n place i 0 (wanted_bytes xs)) (clause_checks n place (i + 1) (clause_pieces (drop (clause_size xs) xs))) e h
 
-pub returns-in-err-check-wanted : goal.returns-in-err-check-wanted
-returns-in-err-check-wanted c =
+pub returns-in_err-check_wanted : goal.returns-in_err-check_wanted
+returns-in_err-check_wanted c =
     let h = c.in-Some.ensures in
-    let told = c.in-err-check-wanted.field-0.0 in
-    let found = rw h.1 at (sym c.check-wanted.ensures ∙ c.in-err-check-wanted.was) in
-    let p = err_from_is_err_and c.from-residual.result c.from-residual.ensures.1 in
+    let told = c.in_err-check_wanted.field-0.0 in
+    let found = rw h.1 at (sym c.check_wanted.ensures ∙ c.in_err-check_wanted.was) in
+    let p = err_from_is_err_and c.from_residual.result c.from_residual.ensures.1 in
     let e = clause_stops c.args.options c.args.place c.loop-wanted.item c.loop-wanted.rest.now h.0 told found in
     cc (p.1, p.2, e, c.loop-wanted.invariant.0)
 
@@ -41,7 +41,7 @@ loop-wanted-preserved c =
     let h = c.in-Some.ensures in
     let xs = c.loop-wanted.rest.now in
     let shorter = ap length h.2 ∙ length-drop (clause_size xs) xs in
-    let found = rw h.1 at (sym c.check-wanted.ensures ∙ c.in-ok-check-wanted.was) in
+    let found = rw h.1 at (sym c.check_wanted.ensures ∙ c.in_ok-check_wanted.was) in
     let e = clause_passes c.args.options c.args.place c.loop-wanted.item xs h.0 found in
     let Kept : List ℕ → Type 0 =
     λ ys.

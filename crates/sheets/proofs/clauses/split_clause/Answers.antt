@@ -5,13 +5,13 @@ use Rattle.std.proofs.lemmas.Bool.{eqb-true, eqb-false}
 use Rattle.sheets.proofs.Ends.{back, front}
 use Rattle.sheets.proofs.clauses.split_clause.Goals as goal
 
-pub returns-then-is-empty : goal.returns-then-is-empty
-returns-then-is-empty c =
-    nil_from_length c.args.rest.now (eqb-true (length c.args.rest.now) 0 (sym c.if-is-empty.ensures))
+pub returns-then-is_empty : goal.returns-then-is_empty
+returns-then-is_empty c =
+    nil_from_length c.args.rest.now (eqb-true (length c.args.rest.now) 0 (sym c.if-is_empty.ensures))
 
 pub returns : goal.returns
 returns c =
     let xs = c.args.rest.now in
     let w = get_or xs 0 0 in
     let e = c.min-end.ensures in
-    (omega (arith, eqb-false (length xs) 0 (sym c.if-is-empty.ensures)), front xs w c.min-end.result e, take_rest xs c.min-end.result ∙ back xs w c.min-end.result e)
+    (omega (arith, eqb-false (length xs) 0 (sym c.if-is_empty.ensures)), front xs w c.min-end.result e, take_rest xs c.min-end.result ∙ back xs w c.min-end.result e)

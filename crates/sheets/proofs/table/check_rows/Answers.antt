@@ -16,7 +16,7 @@ loop-rest-preserved c =
     let w = c.args.columns in
     let place = c.args.place in
     let some : 0 < length xs = omega arith in
-    let fit : leb (2 ^ w) (row_of xs) ≡ false = sym c.if-has-bit-from.ensures in
+    let fit : leb (2 ^ w) (row_of xs) ≡ false = sym c.if-has_bit_from.ensures in
     let shorter = length-drop 2 xs in
     let Kept : List ℕ → Type 0 =
     λ ys.

@@ -9,6 +9,6 @@ unfolding contradiction
 returns c =
     let r = contradiction in
     record {
-      answer = masks_equal _ r c.every-bit.ensures c.every-bit-2.ensures;
-      options = λ o v h. masks_know _ r c.every-bit.ensures c.every-bit-2.ensures o v ∙ contradiction_knows o v h;
+      answer = masks_equal _ r c.every_bit.ensures c.every_bit-2.ensures;
+      options = λ o v h. masks_know _ r c.every_bit.ensures c.every_bit-2.ensures o v ∙ contradiction_knows o v h;
     }

@@ -11,6 +11,6 @@ returns c =
     let a = c.args.self in
     let hidden = c.args.hidden in
     let e =
-    c.is-empty.ensures
-    ∙ ap (λ m. eqb m 0) (c.less.ensures ∙ ap (λ m. less m hidden) (c.less-unknown.ensures ∙ ap (λ m. less m c.merged.result) c.every-bit.ensures ∙ ap (less all) c.merged.ensures)) in
+    c.is_empty.ensures
+    ∙ ap (λ m. eqb m 0) (c.less.ensures ∙ ap (λ m. less m hidden) (c.less-unknown.ensures ∙ ap (λ m. less m c.merged.result) c.every_bit.ensures ∙ ap (less all) c.merged.ensures)) in
     record { answer = e; options = Decides-at _ _ e (known_outside_at hidden a, known_outside_by hidden a) }

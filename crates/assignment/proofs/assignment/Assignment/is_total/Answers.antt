@@ -5,20 +5,20 @@ use Rattle.assignment.specs.Lattice.{all, inconsistent, total}
 use Rattle.assignment.specs.Laws.{build_total, total_build}
 use Rattle.assignment.proofs.assignment.Assignment.is_total.Goals as goal
 
-pub returns-then-is-full : goal.returns-then-is-full
+pub returns-then-is_full : goal.returns-then-is_full
 unfolding total
-returns-then-is-full c =
+returns-then-is_full c =
     let a = c.args.self in
     let e =
-    ap not c.is-inconsistent.ensures.answer
-    ∙ ap (λ b. b && not (inconsistent a)) (c.if-is-full.ensures ∙ ap (λ m. eqb m all) c.merged.ensures) in
+    ap not c.is_inconsistent.ensures.answer
+    ∙ ap (λ b. b && not (inconsistent a)) (c.if-is_full.ensures ∙ ap (λ m. eqb m all) c.merged.ensures) in
     record { answer = e; builds = Decides-at _ _ e (total_build a, build_total a) }
 
-pub returns-else-is-full : goal.returns-else-is-full
+pub returns-else-is_full : goal.returns-else-is_full
 unfolding total
-returns-else-is-full c =
+returns-else-is_full c =
     let a = c.args.self in
     let e =
-    c.if-is-full.false
-    ∙ ap (λ b. b && not (inconsistent a)) (c.if-is-full.ensures ∙ ap (λ m. eqb m all) c.merged.ensures) in
+    c.if-is_full.false
+    ∙ ap (λ b. b && not (inconsistent a)) (c.if-is_full.ensures ∙ ap (λ m. eqb m all) c.merged.ensures) in
     record { answer = e; builds = Decides-at _ _ e (total_build a, build_total a) }

@@ -10,7 +10,7 @@ unfolding put
 returns-then-value c =
     let a = c.args.self in
     let e =
-    masks_equal _ (put c.args.option true a) (c.merged.ensures ∙ ap (bit_or a.yes) c.one-bit-bit.ensures) refl
+    masks_equal _ (put c.args.option true a) (c.merged.ensures ∙ ap (bit_or a.yes) c.one_bit-bit.ensures) refl
     ∙ ap (λ v. put c.args.option v a) (sym c.if-value.true) in
     record { answer = e; options = put_made _ c.args.option c.args.value a e }
 
@@ -19,6 +19,6 @@ unfolding put
 returns c =
     let a = c.args.self in
     let e =
-    masks_equal _ (put c.args.option false a) refl (c.merged-2.ensures ∙ ap (bit_or a.no) c.one-bit-bit.ensures)
+    masks_equal _ (put c.args.option false a) refl (c.merged-2.ensures ∙ ap (bit_or a.no) c.one_bit-bit.ensures)
     ∙ ap (λ v. put c.args.option v a) (sym c.if-value.false) in
     record { answer = e; options = put_made _ c.args.option c.args.value a e }

@@ -12,12 +12,12 @@ use Rattle.entries.specs.Drafts.{draft_checks}
 use Rattle.entries.specs.Fields.{entry_checks, entry_of}
 use Rattle.entries.proofs.draft.Draft.add.Goals as goal
 
-pub returns-in-err-entry : goal.returns-in-err-entry
-returns-in-err-entry c =
+pub returns-in_err-entry : goal.returns-in_err-entry
+returns-in_err-entry c =
     let checks = draft_checks c.args.self.now c.args.fields in
-    let told = c.in-err-entry.field-0.0 in
-    let p = err_from_is_err_and c.from-residual.result c.from-residual.ensures.1 in
-    let e = judged_err (entry_of c.args.fields) (tt {0}) checks told (sym c.check.ensures ∙ c.in-err-entry.was) in
+    let told = c.in_err-entry.field-0.0 in
+    let p = err_from_is_err_and c.from_residual.result c.from_residual.ensures.1 in
+    let e = judged_err (entry_of c.args.fields) (tt {0}) checks told (sym c.check.ensures ∙ c.in_err-entry.was) in
     record {
       answer = cc (p.1, p.2, e);
       entries = rw p.1 (search rules);
@@ -31,28 +31,28 @@ room d f e h =
     let rest = when (eqb d.options 0) OutOfRange ∷ when (ltb 64 d.options) OutOfRange ∷ entry_checks d.options d.below f in
     leb-false 32 (vec_len d.entries) (judged_head (when (leb 32 (vec_len d.entries)) TooMany) rest (entry_of f) e h)
 
-pub push-reserved-requires : goal.push-reserved-requires
-push-reserved-requires c =
+pub push_reserved-requires : goal.push_reserved-requires
+push_reserved-requires c =
     let d = c.args.self.now in
-    let free = room d c.args.fields c.in-ok-entry.entry (sym c.check.ensures ∙ c.in-ok-entry.was) in
+    let free = room d c.args.fields c.in_ok-entry.entry (sym c.check.ensures ∙ c.in_ok-entry.was) in
     let cap = d.room in
     omega arith
 
-pub invariant-of-self : goal.invariant-of-self
-invariant-of-self c =
+pub invariant_of-self : goal.invariant_of-self
+invariant_of-self c =
     let d = c.args.self.now in
-    let free = room d c.args.fields c.in-ok-entry.entry (sym c.check.ensures ∙ c.in-ok-entry.was) in
+    let free = room d c.args.fields c.in_ok-entry.entry (sym c.check.ensures ∙ c.in_ok-entry.was) in
     let cap = d.room in
     (omega arith, (omega arith, tt))
 
 pub returns : goal.returns
 returns c =
     let checks = draft_checks c.args.self.now c.args.fields in
-    let was = sym c.check.ensures ∙ c.in-ok-entry.was in
-    let value = judged_value checks (entry_of c.args.fields) c.in-ok-entry.entry was in
+    let was = sym c.check.ensures ∙ c.in_ok-entry.was in
+    let value = judged_value checks (entry_of c.args.fields) c.in_ok-entry.entry was in
     record {
-      answer = sym (judged_ok (entry_of c.args.fields) (tt {0}) checks c.in-ok-entry.entry was);
-      entries = rw (← value) c.push-reserved.ensures.items;
+      answer = sym (judged_ok (entry_of c.args.fields) (tt {0}) checks c.in_ok-entry.entry was);
+      entries = rw (← value) c.push_reserved.ensures.items;
       options = search rules;
       below = search rules;
     }

@@ -12,6 +12,6 @@ unfolding carries
 loop-rule-preserved c =
     let n = c.loop-rule.rule in
     let grown =
-    c.push-reserved.ensures.items
+    c.push_reserved.ensures.items
     ∙ ap (λ es. es ++ c.carry.result ∷ []) c.loop-rule.invariant.0 ∙ ap (λ e. carries n ++ e ∷ []) c.carry.ensures in
     (grown ∙ sym (ap carries (add-one n)), omega arith, omega arith)

@@ -15,29 +15,29 @@ use Rattle.rulefile.proofs.reader.Reader.keep_folder.Goals as goal
 same_rules : {below : ℕ} (n place : ℕ) (body : List ℕ) {c : ℕ} → below ≡ c → judged (folder_checks n c place body) (entries_of body) ≡ judged (folder_checks n below place body) (entries_of body)
 same_rules n place body e = ap (λ m. judged (folder_checks n m place body) (entries_of body)) (sym e)
 
-pub returns-in-err-draft : goal.returns-in-err-draft
-returns-in-err-draft c =
+pub returns-in_err-draft : goal.returns-in_err-draft
+returns-in_err-draft c =
     let r = c.args.self.now in
     let body = c.args.body.now in
-    let told = c.in-err-draft.field-0.0 in
+    let told = c.in_err-draft.field-0.0 in
     let checks = folder_checks r.options (rules (held r)) c.args.place body in
-    let known = same_rules r.options c.args.place body c.rules-rules.ensures ∙ sym c.in-err-draft.ensures in
+    let known = same_rules r.options c.args.place body c.rules-rules.ensures ∙ sym c.in_err-draft.ensures in
     let e = judged_within_err (entries_of body) (tt {0}) Folder checks told known in
-    let p = err_from_is_err_and c.from-residual.result c.from-residual.ensures.1 in
-    record { answer = rw (p.1, p.2) (sym e); kept = IfOk-from_err c.from-residual.result _ c.from-residual.ensures.0 }
+    let p = err_from_is_err_and c.from_residual.result c.from_residual.ensures.1 in
+    record { answer = rw (p.1, p.2) (sym e); kept = IfOk-from_err c.from_residual.result _ c.from_residual.ensures.0 }
 
 pub returns : goal.returns
 returns c =
     let r = c.args.self.now in
     let body = c.args.body.now in
-    let draft = c.in-ok-draft.draft in
+    let draft = c.in_ok-draft.draft in
     let checks = folder_checks r.options (rules (held r)) c.args.place body in
-    let ok = same_rules r.options c.args.place body c.rules-rules.ensures ∙ sym c.in-ok-draft.ensures in
+    let ok = same_rules r.options c.args.place body c.rules-rules.ensures ∙ sym c.in_ok-draft.ensures in
     let grown =
-    map_grown (λ es. es) drafted (vec_items r.folders) (vec_items c.push-reserved.new.self) draft (entries_of body)
-    c.push-reserved.ensures.items (judged_value checks (entries_of body) (drafted draft) ok) in
+    map_grown (λ es. es) drafted (vec_items r.folders) (vec_items c.push_reserved.new.self) draft (entries_of body)
+    c.push_reserved.ensures.items (judged_value checks (entries_of body) (drafted draft) ok) in
     let popped = c.in-Some.ensures.len in
     record {
       answer = sym (judged_within_ok (entries_of body) (tt {0}) Folder checks (drafted draft) ok);
-      kept = record { holds = ap (set_folders (held r)) grown; last = refl; paired = omega (arith, popped, c.push-reserved.ensures.len, c.requires.paired) };
+      kept = record { holds = ap (set_folders (held r)) grown; last = refl; paired = omega (arith, popped, c.push_reserved.ensures.len, c.requires.paired) };
     }

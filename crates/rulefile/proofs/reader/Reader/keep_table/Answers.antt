@@ -9,31 +9,31 @@ use Rattle.sheets.specs.Views.{table_body}
 use Rattle.rulefile.proofs.Parts.{map_grown, set_tables}
 use Rattle.rulefile.proofs.reader.Reader.keep_table.Goals as goal
 
-pub returns-in-err-sheet : goal.returns-in-err-sheet
-returns-in-err-sheet c =
+pub returns-in_err-sheet : goal.returns-in_err-sheet
+returns-in_err-sheet c =
     let body = c.args.body.now in
     let checks = table_checks c.args.self.now.options c.args.place body in
-    let e = judged_within_err body (tt {0}) Sheet checks c.in-err-sheet.field-0.0 (sym c.in-err-sheet.ensures) in
-    let p = err_from_is_err_and c.from-residual.result c.from-residual.ensures.1 in
-    record { answer = rw (p.1, p.2) (sym e); kept = IfOk-from_err c.from-residual.result _ c.from-residual.ensures.0 }
+    let e = judged_within_err body (tt {0}) Sheet checks c.in_err-sheet.field-0.0 (sym c.in_err-sheet.ensures) in
+    let p = err_from_is_err_and c.from_residual.result c.from_residual.ensures.1 in
+    record { answer = rw (p.1, p.2) (sym e); kept = IfOk-from_err c.from_residual.result _ c.from_residual.ensures.0 }
 
-pub invariant-of-self : goal.invariant-of-self
-invariant-of-self c =
+pub invariant_of-self : goal.invariant_of-self
+invariant_of-self c =
     let r = c.args.self.now in
-    let pushed = c.push-reserved.ensures in
+    let pushed = c.push_reserved.ensures in
     (λ _. r.told c.requires.begun, (omega arith, ((omega arith, omega arith, omega arith), tt)))
 
 pub returns : goal.returns
 returns c =
     let r = c.args.self.now in
     let body = c.args.body.now in
-    let sheet = c.in-ok-sheet.sheet in
+    let sheet = c.in_ok-sheet.sheet in
     let checks = table_checks r.options c.args.place body in
-    let ok = sym c.in-ok-sheet.ensures in
+    let ok = sym c.in_ok-sheet.ensures in
     let same = judged_value checks body (table_body sheet) ok in
     let grown =
-    map_grown table_of table_body (vec_items r.tables) (vec_items c.push-reserved.new.self) sheet body
-    c.push-reserved.ensures.items same in
+    map_grown table_of table_body (vec_items r.tables) (vec_items c.push_reserved.new.self) sheet body
+    c.push_reserved.ensures.items same in
     record {
       answer = sym (judged_within_ok body (tt {0}) Sheet checks (table_body sheet) ok);
       kept = record { holds = ap (set_tables (held r)) grown; last = refl; paired = c.requires.paired };

@@ -24,6 +24,6 @@ pub returns : goal.returns
 returns c =
     let bytes = c.args.bytes.now in
     record {
-      answer = c.read-records.ensures;
-      exact = exact bytes (bytes_fit bytes c.type-inv.bytes) c.read-records.result c.read-records.ensures;
+      answer = c.read_records.ensures;
+      exact = exact bytes (bytes_fit bytes c.type_inv.bytes) c.read_records.result c.read_records.ensures;
     }

@@ -38,29 +38,29 @@ same_left {k} {k'} {c} {c'} {ys} {ys'} total ek ec ey =
     ∙ ap (λ d. judged (checks_from total k' d (records ys)) (held_from d (records ys))) ec
     ∙ ap (λ zs. judged (checks_from total k' c' (records zs)) (held_from c' (records zs))) ey
 
-pub returns-then-bytes-gt-MAX-FILE : goal.returns-then-bytes-gt-MAX-FILE
-returns-then-bytes-gt-MAX-FILE c = let t = lt-ltb 32768 (length c.args.bytes.now) c.if-bytes-gt-MAX-FILE.true in simp t
+pub returns-then-bytes-gt-MAX_FILE : goal.returns-then-bytes-gt-MAX_FILE
+returns-then-bytes-gt-MAX_FILE c = let t = lt-ltb 32768 (length c.args.bytes.now) c.if-bytes-gt-MAX_FILE.true in simp t
 
-pub returns-in-err-rest : goal.returns-in-err-rest
-returns-in-err-rest c =
+pub returns-in_err-rest : goal.returns-in_err-rest
+returns-in_err-rest c =
     let r = c.loop-rest.reader in
     let rest = c.loop-rest.rest.now in
     let bytes = c.args.bytes.now in
-    let fits = le-ltb 32768 (length bytes) c.if-bytes-gt-MAX-FILE.false in
+    let fits = le-ltb 32768 (length bytes) c.if-bytes-gt-MAX_FILE.false in
     let some : 0 < length rest = omega (arith, eqb-false (length rest) 0 (sym c.loop-rest-test.ensures)) in
     let e =
-    record_stops (length bytes) r.kind (held r) rest some (held_from (held r) (records rest)) c.in-err-rest.field-0.0
-    (sym c.in-err-rest.ensures.answer) in
-    let p = err_from_is_err_and c.from-residual.result c.from-residual.ensures.1 in
+    record_stops (length bytes) r.kind (held r) rest some (held_from (held r) (records rest)) c.in_err-rest.field-0.0
+    (sym c.in_err-rest.ensures.answer) in
+    let p = err_from_is_err_and c.from_residual.result c.from_residual.ensures.1 in
     rw (p.1, p.2, fits) (sym e ∙ c.loop-rest.invariant.0)
 
 -- what follows the record, by its bytes
-after_is : (c : goal.In-ok-rest) → c.in-ok-rest.rest.now ≡ drop (record_size c.loop-rest.rest.now) c.loop-rest.rest.now
+after_is : (c : goal.In-ok-rest) → c.in_ok-rest.rest.now ≡ drop (record_size c.loop-rest.rest.now) c.loop-rest.rest.now
 after_is c =
     let r = c.loop-rest.reader in
     let rest = c.loop-rest.rest.now in
     judged_value (record_checks r.kind (length c.args.bytes.now - length rest) rest (held r)) (drop (record_size rest) rest)
-    c.in-ok-rest.rest.now (sym c.in-ok-rest.ensures.answer)
+    c.in_ok-rest.rest.now (sym c.in_ok-rest.ensures.answer)
 
 pub loop-rest-smaller : goal.loop-rest-smaller
 loop-rest-smaller c =
@@ -74,8 +74,8 @@ loop-rest-preserved c =
     let rest = c.loop-rest.rest.now in
     let bytes = c.args.bytes.now in
     let some : 0 < length rest = omega (arith, eqb-false (length rest) 0 (sym c.loop-rest-test.ensures)) in
-    let e = record_passes (length bytes) r.kind (held r) rest some c.in-ok-rest.rest.now (sym c.in-ok-rest.ensures.answer) in
-    let kept = c.in-ok-rest.ensures.kept in
+    let e = record_passes (length bytes) r.kind (held r) rest some c.in_ok-rest.rest.now (sym c.in_ok-rest.ensures.answer) in
+    let kept = c.in_ok-rest.ensures.kept in
     let shorter = ap length (after_is c) ∙ length-drop (record_size rest) rest in (
       same_left (length bytes) kept.last kept.holds (after_is c) ∙ sym e ∙ c.loop-rest.invariant.0,
       kept.paired,

@@ -28,7 +28,7 @@ returns-in-Some c =
     let there : There sheets = subst There c.deref.ensures.value (found.3.0, found.1) in
     record {
       answer =
-          c.reply-of-clauses.ensures
+          c.reply_of_clauses.ensures
           ∙ sheet_replies clauses_reply clauses_in sheets k c.if-rule-ge64.false c.args.question sheet there.0 there.1;
       same = refl;
     }

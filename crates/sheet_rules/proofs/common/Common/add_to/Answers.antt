@@ -10,7 +10,7 @@ loop-column-preserved c =
     let columns = c.args.columns.now in
     let l = c.loop-column in
     let e = at_drop_more (λ xs. add_common xs l.common l.reply) columns l.column-index 0 c.loop-column-test.true in
-    ap₂ (add_common (drop (l.column-index + 1) columns)) c.halved-common.ensures c.add-first-reply.ensures
+    ap₂ (add_common (drop (l.column-index + 1) columns)) c.halved-common.ensures c.add_first-reply.ensures
     ∙ sym e ∙ l.invariant
 
 pub returns : goal.returns

@@ -12,8 +12,8 @@ loop-i-init c =
     let columns = c.args.columns.now in
     sym (at_drop_all (λ xs. known_of xs c.args.question) columns (length columns) (omega arith))
 
-pub led-by-known-requires : goal.led-by-known-requires
-led-by-known-requires c =
+pub led_by-known-requires : goal.led_by-known-requires
+led_by-known-requires c =
     let Small : Known → Type 0 = λ k. (k.yes ≤ 65536) × (k.no < 65536) in
     subst Small (sym c.loop-i.invariant) (known_small (drop c.loop-i.i c.args.columns.now) c.args.question)
 
@@ -27,4 +27,4 @@ loop-i-preserved c =
     let below : i < length columns = omega arith in
     let up : i + 1 ≡ c.loop-i.i = omega arith in
     let rest = drop_more columns i 0 below ∙ ap (λ n. column ∷ drop n columns) up in
-    c.led-by-known.ensures ∙ ap (led_by column question) c.loop-i.invariant ∙ sym (ap (λ xs. known_of xs question) rest)
+    c.led_by-known.ensures ∙ ap (led_by column question) c.loop-i.invariant ∙ sym (ap (λ xs. known_of xs question) rest)

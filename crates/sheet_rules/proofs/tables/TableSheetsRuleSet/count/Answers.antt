@@ -8,5 +8,5 @@ use Rattle.sheet_rules.proofs.tables.TableSheetsRuleSet.count.Goals as goal
 pub returns : goal.returns
 returns c =
     let s = c.args.self.now in
-    c.first-64.ensures
+    c.first_64.ensures
     ∙ ap (min 64) (c.len.ensures ∙ s.sheets.ok.0 ∙ sym (length-map (tables_held s) table_reply ∙ length-map (vec_items s.sheets) table_in))

@@ -8,19 +8,19 @@ use Rattle.ruleformat.specs.Clauses.{clause_checks, clause_pieces, unfit_clauses
 use Rattle.ruleformat.specs.Records.{at}
 use Rattle.sheets.proofs.clauses.ClauseSheet.read.Goals as goal
 
-pub returns-in-err-check-clauses : goal.returns-in-err-check-clauses
-returns-in-err-check-clauses c =
+pub returns-in_err-check_clauses : goal.returns-in_err-check_clauses
+returns-in_err-check_clauses c =
     let body = c.args.body.now in
-    let shape = judged_head (when (unfit_clauses body) (at Unfit c.args.place)) [] (tt {0}) tt (sym c.check-shape.ensures ∙ c.in-ok-check-shape.was) in
+    let shape = judged_head (when (unfit_clauses body) (at Unfit c.args.place)) [] (tt {0}) tt (sym c.check_shape.ensures ∙ c.in_ok-check_shape.was) in
     let clauses = clause_checks c.args.options c.args.place 0 (clause_pieces body) in
-    let e = judged_err (tt {0}) body clauses c.in-err-check-clauses.field-0.0 (sym c.check-clauses.ensures ∙ c.in-err-check-clauses.was) in
-    let p = err_from_is_err_and c.from-residual-in-err-check-clauses.result c.from-residual-in-err-check-clauses.ensures.1 in
+    let e = judged_err (tt {0}) body clauses c.in_err-check_clauses.field-0.0 (sym c.check_clauses.ensures ∙ c.in_err-check_clauses.was) in
+    let p = err_from_is_err_and c.from_residual-in_err-check_clauses.result c.from_residual-in_err-check_clauses.ensures.1 in
     rw (p.1, p.2, shape) (sym e)
 
 pub returns : goal.returns
 returns c =
     let body = c.args.body.now in
-    let shape = judged_head (when (unfit_clauses body) (at Unfit c.args.place)) [] (tt {0}) tt (sym c.check-shape.ensures ∙ c.in-ok-check-shape.was) in
+    let shape = judged_head (when (unfit_clauses body) (at Unfit c.args.place)) [] (tt {0}) tt (sym c.check_shape.ensures ∙ c.in_ok-check_shape.was) in
     let clauses = clause_checks c.args.options c.args.place 0 (clause_pieces body) in
-    let e = judged_ok (tt {0}) body clauses tt (sym c.check-clauses.ensures ∙ c.in-ok-check-clauses.was) in
+    let e = judged_ok (tt {0}) body clauses tt (sym c.check_clauses.ensures ∙ c.in_ok-check_clauses.was) in
     rw shape (sym e)

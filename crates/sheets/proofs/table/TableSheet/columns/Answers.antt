@@ -16,4 +16,4 @@ returns-then-end-eq0 c =
 pub returns : goal.returns
 returns c =
     let body = c.args.self.now.body.now in
-    front body (get_or body 0 0) c.columns-end-end.result c.columns-end-end.ensures
+    front body (get_or body 0 0) c.columns_end-end.result c.columns_end-end.ensures

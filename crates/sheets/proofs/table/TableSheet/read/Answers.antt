@@ -41,34 +41,34 @@ module _ (n place k : ℕ) (body : List ℕ) (counted : judged (when (unfit_tabl
       ap (λ rs. judged (row_checks k place 0 rs) (tt {0})) rows_are
       ∙ ap (λ j. judged (row_checks j place 0 (rows_of body)) (tt {0})) width_is
 
-pub returns-in-err-check-columns : goal.returns-in-err-check-columns
-returns-in-err-check-columns c =
-    let was = sym c.count-columns.ensures ∙ c.in-ok-columns.was in
+pub returns-in_err-check_columns : goal.returns-in_err-check_columns
+returns-in_err-check_columns c =
+    let was = sym c.count_columns.ensures ∙ c.in_ok-columns.was in
     let e =
-    columns_stop c.args.options c.args.place c.in-ok-columns.columns c.args.body.now was
-    c.in-err-check-columns.field-0.0 (sym c.check-columns.ensures ∙ c.in-err-check-columns.was) in
-    let p = err_from_is_err_and c.from-residual-in-err-check-columns.result c.from-residual-in-err-check-columns.ensures.1 in
+    columns_stop c.args.options c.args.place c.in_ok-columns.columns c.args.body.now was
+    c.in_err-check_columns.field-0.0 (sym c.check_columns.ensures ∙ c.in_err-check_columns.was) in
+    let p = err_from_is_err_and c.from_residual-in_err-check_columns.result c.from_residual-in_err-check_columns.ensures.1 in
     rw (p.1, p.2) (sym e)
 
-pub returns-in-err-check-rows : goal.returns-in-err-check-rows
-returns-in-err-check-rows c =
+pub returns-in_err-check_rows : goal.returns-in_err-check_rows
+returns-in_err-check_rows c =
     let body = c.args.body.now in
-    let was = sym c.count-columns.ensures ∙ c.in-ok-columns.was in
-    let k = c.in-ok-columns.columns in
-    let told = c.in-err-check-rows.field-0.0 in
-    let rows = sym (rows_decide c.args.options c.args.place k body was) ∙ sym c.check-rows.ensures ∙ c.in-err-check-rows.was in
+    let was = sym c.count_columns.ensures ∙ c.in_ok-columns.was in
+    let k = c.in_ok-columns.columns in
+    let told = c.in_err-check_rows.field-0.0 in
+    let rows = sym (rows_decide c.args.options c.args.place k body was) ∙ sym c.check_rows.ensures ∙ c.in_err-check_rows.was in
     let e =
-    columns_pass c.args.options c.args.place k body was (sym c.check-columns.ensures ∙ c.in-ok-check-columns.was)
+    columns_pass c.args.options c.args.place k body was (sym c.check_columns.ensures ∙ c.in_ok-check_columns.was)
     ∙ judged_err (tt {0}) body (row_checks (width body) c.args.place 0 (rows_of body)) told rows in
-    let p = err_from_is_err_and c.from-residual-in-err-check-rows.result c.from-residual-in-err-check-rows.ensures.1 in
+    let p = err_from_is_err_and c.from_residual-in_err-check_rows.result c.from_residual-in_err-check_rows.ensures.1 in
     rw (p.1, p.2) (sym e)
 
 pub returns : goal.returns
 returns c =
     let body = c.args.body.now in
-    let was = sym c.count-columns.ensures ∙ c.in-ok-columns.was in
-    let k = c.in-ok-columns.columns in
-    let rows = sym (rows_decide c.args.options c.args.place k body was) ∙ sym c.check-rows.ensures ∙ c.in-ok-check-rows.was in
+    let was = sym c.count_columns.ensures ∙ c.in_ok-columns.was in
+    let k = c.in_ok-columns.columns in
+    let rows = sym (rows_decide c.args.options c.args.place k body was) ∙ sym c.check_rows.ensures ∙ c.in_ok-check_rows.was in
     sym
-    (columns_pass c.args.options c.args.place k body was (sym c.check-columns.ensures ∙ c.in-ok-check-columns.was)
+    (columns_pass c.args.options c.args.place k body was (sym c.check_columns.ensures ∙ c.in_ok-check_columns.was)
     ∙ judged_ok (tt {0}) body (row_checks (width body) c.args.place 0 (rows_of body)) tt rows)

@@ -8,5 +8,5 @@ use Rattle.sheets.proofs.table.TableSheet.rows.Goals as goal
 pub returns : goal.returns
 returns c =
     let body = c.args.self.now.body.now in
-    let end = c.columns-end-end.result in
-    ap rows_in (take_rest body end ∙ back body (get_or body 0 0) end c.columns-end-end.ensures)
+    let end = c.columns_end-end.result in
+    ap rows_in (take_rest body end ∙ back body (get_or body 0 0) end c.columns_end-end.ensures)

@@ -5,18 +5,18 @@ use Rattle.assignment.specs.Lattice.{same}
 use Rattle.assignment.specs.Laws.{same_true, true_same}
 use Rattle.assignment.proofs.assignment.algebra.AssignmentPartialEq.eq.Goals as goal
 
-pub returns-then-is-same : goal.returns-then-is-same
+pub returns-then-is_same : goal.returns-then-is_same
 unfolding same
-returns-then-is-same c =
+returns-then-is_same c =
     let a = c.args.self.now in
     let b = c.args.other.now in
-    let e = c.is-same-then-is-same.ensures ∙ ap (λ t. t && eqb a.no b.no) c.if-is-same.ensures in
-    (e, Decides-at _ _ e (same_true a b, true_same a b))
+    let e = c.is_same-then-is_same.ensures ∙ ap (λ t. t && eqb a.no b.no) c.if-is_same.ensures in
+    record { answer = e; equal = Decides-at _ _ e (same_true a b, true_same a b) }
 
-pub returns-else-is-same : goal.returns-else-is-same
+pub returns-else-is_same : goal.returns-else-is_same
 unfolding same
-returns-else-is-same c =
+returns-else-is_same c =
     let a = c.args.self.now in
     let b = c.args.other.now in
-    let e = c.if-is-same.false ∙ ap (λ t. t && eqb a.no b.no) c.if-is-same.ensures in
-    (e, Decides-at _ _ e (same_true a b, true_same a b))
+    let e = c.if-is_same.false ∙ ap (λ t. t && eqb a.no b.no) c.if-is_same.ensures in
+    record { answer = e; equal = Decides-at _ _ e (same_true a b, true_same a b) }

@@ -10,4 +10,4 @@ returns g c =
     let draft = c.args.self.now.draft in
     let below = g.R.RuleSet.meaning c.args.self.now.below in
     let as_many = length-map (drafted draft) (λ e. entry_reply e below.reply) in
-    omega (arith, as_many, c.count-entries.ensures, draft.entries.ok.0, draft.few)
+    omega (arith, as_many, c.count_entries.ensures, draft.entries.ok.0, draft.few)
