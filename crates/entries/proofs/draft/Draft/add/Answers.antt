@@ -43,7 +43,7 @@ invariant_of-self c =
     let d = c.args.self.now in
     let free = room d c.args.fields c.in_ok-entry.entry (sym c.check.ensures ∙ c.in_ok-entry.was) in
     let cap = d.room in
-    (omega arith, (omega arith, tt))
+    record { few = omega arith; room = omega arith }
 
 pub returns : goal.returns
 returns c =
