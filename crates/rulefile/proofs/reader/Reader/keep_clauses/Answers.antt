@@ -21,7 +21,7 @@ pub invariant_of-self : goal.invariant_of-self
 invariant_of-self c =
     let r = c.args.self.now in
     let pushed = c.push_reserved.ensures in
-    (λ _. r.told c.requires.begun, (omega arith, ((omega arith, omega arith, omega arith), tt)))
+    record { told = λ _. r.told c.requires.begun; few = omega arith; low = omega arith; room = (omega arith, omega arith, omega arith) }
 
 pub returns : goal.returns
 returns c =
