@@ -15,6 +15,8 @@ SPECIAL = {
     "clause-adds": "added_by_clause",
     "clause-rules": "rules_of_clauses",
     "table-rules": "rules_of_tables",
+    "Table-allows": "TableKeepsAllowed",
+    "Clauses-allow": "ClausesKeepAllowed",
 }
 
 

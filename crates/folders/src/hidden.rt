@@ -10,8 +10,8 @@ use ruleset::{RuleSet, finds_build};
 // Whether a rule allows a build that refines what is known of the shown options.
 pub(crate) fn fits<R: RuleSet>(below: &mut R, rule: u32, hidden: u64, shown: Assignment) -> bool
     requires { Covers (options_in hidden) shown }
-    ensures answer { result ≡ fills ((meaning below.old).reply rule) (options_in hidden) shown }
-    ensures same { meaning below.new ≡ meaning below.old }
+    ensures answer { result ≡ fills ((R.RuleSet.meaning below.old).reply rule) (options_in hidden) shown }
+    ensures same { R.RuleSet.meaning below.new ≡ R.RuleSet.meaning below.old }
 {
     let mut options = [0u8; 64];
     let count = list_options(hidden, &mut options);

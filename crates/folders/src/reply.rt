@@ -9,8 +9,8 @@ use entries::Entry;
 use ruleset::RuleSet;
 
 pub(crate) fn reply<R: RuleSet>(below: &mut R, entry: Entry, question: Assignment) -> Assignment
-    ensures answer { result ≡ entry_reply entry (meaning below.old).reply question }
-    ensures same { meaning below.new ≡ meaning below.old }
+    ensures answer { result ≡ entry_reply entry (R.RuleSet.meaning below.old).reply question }
+    ensures same { R.RuleSet.meaning below.new ≡ R.RuleSet.meaning below.old }
 {
     match entry {
         Entry::Carry { rule } => below.propagate(rule as u32, question),
@@ -49,8 +49,8 @@ fn either(one: Assignment, other: Assignment) -> Assignment
 // The reply below to the question without its hidden options, which are then put back as they were asked. Once all shown
 // options are known, a build below has to fit them.
 fn project<R: RuleSet>(below: &mut R, rule: u32, hidden: u64, question: Assignment) -> Assignment
-    ensures answer { result ≡ project_reply hidden ((meaning below.old).reply rule) question }
-    ensures same { meaning below.new ≡ meaning below.old }
+    ensures answer { result ≡ project_reply hidden ((R.RuleSet.meaning below.old).reply rule) question }
+    ensures same { R.RuleSet.meaning below.new ≡ R.RuleSet.meaning below.old }
 {
     if question.is_inconsistent() {
         return Assignment::contradiction();
@@ -64,8 +64,8 @@ fn project<R: RuleSet>(below: &mut R, rule: u32, hidden: u64, question: Assignme
 
 // Whether all shown options are known, and no build below fits them.
 fn lacks_build<R: RuleSet>(below: &mut R, rule: u32, hidden: u64, question: Assignment) -> bool
-    ensures answer { result ≡ (known_outside hidden question && not (fits_below hidden ((meaning below.old).reply rule) question)) }
-    ensures same { meaning below.new ≡ meaning below.old }
+    ensures answer { result ≡ (known_outside hidden question && not (fits_below hidden ((R.RuleSet.meaning below.old).reply rule) question)) }
+    ensures same { R.RuleSet.meaning below.new ≡ R.RuleSet.meaning below.old }
 {
     if !question.is_known_without(hidden) {
         return false;
@@ -82,8 +82,8 @@ fn put_back(found: Assignment, hidden: u64, question: Assignment) -> Assignment
 
 // A build that is allowed below is excluded; nothing else is changed.
 fn complement<R: RuleSet>(below: &mut R, rule: u32, question: Assignment) -> Assignment
-    ensures answer { result ≡ exclude ((meaning below.old).reply rule) question }
-    ensures same { meaning below.new ≡ meaning below.old }
+    ensures answer { result ≡ exclude ((R.RuleSet.meaning below.old).reply rule) question }
+    ensures same { R.RuleSet.meaning below.new ≡ R.RuleSet.meaning below.old }
 {
     if question.is_inconsistent() {
         return Assignment::contradiction();

@@ -11,7 +11,7 @@ use Rattle.assignment.specs.declared.assignment.Assignment.{Assignment}
 use Rattle.ruleformat.specs.Contents.{Wanted}
 use Rattle.sheet_rules.specs.ClauseReply.{add_clauses, add_clauses_above, added_by_clause, clauses_lawful, clauses_reply, forced}
 use Rattle.sheet_rules.specs.Equal.{same_value}
-use Rattle.sheet_rules.specs.Laws.{ClausesAdd, ClausesAllow, ClausesAllow, ClausesForce, NotLostHad}
+use Rattle.sheet_rules.specs.Laws.{ClausesAdd, ClausesAllow, ClausesKeepAllowed, ClausesForce, NotLostHad}
 use Rattle.sheet_rules.specs.Lost.{left, left_from, left_values, lost, not_lost_known}
 
 -- a value that is the only one left
@@ -86,7 +86,7 @@ clauses_add cs a c allow o v h =
     added (inl k) = knows_up (add_clauses_above a cs a) o v k
     added (inr f) = knows_up (add_clauses_at a cs a f.1) o v (forced_adds (left a f.0) o v h f.2)
 
-pub clauses_allow : ClausesAllow
+pub clauses_allow : ClausesKeepAllowed
 clauses_allow cs b total = (λ e ws m. some ws m e (left b ws) refl, same)
   where
     c : inconsistent b ≡ false

@@ -10,7 +10,7 @@ use Rattle.assignment.specs.Laws.{contradiction_inconsistent, refines_antisym, r
 use Rattle.assignment.specs.declared.assignment.Assignment.{Assignment}
 use Rattle.ruleformat.specs.Contents.{Table}
 use Rattle.sheet_rules.specs.Agreement.{agreeing, agreeing_from, agreeing_rows, agrees_at}
-use Rattle.sheet_rules.specs.Laws.{TableAdds, TableAllows, TableAllows, TableForces}
+use Rattle.sheet_rules.specs.Laws.{TableAdds, TableAllows, TableKeepsAllowed, TableForces}
 use Rattle.sheet_rules.specs.Shared.{add_shared, add_shared_adds, add_shared_keeps, add_shared_knows, Shared}
 use Rattle.sheet_rules.specs.TableReply.{reply_by, table_lawful, table_reply}
 
@@ -52,7 +52,7 @@ table_adds t a c s o v h =
         add_shared_adds cs rows a o v h
         (f.0, f.1, f.2, λ row m. let p = agreeing_rows cs t.rows a m in f.3 row p.0 p.1)
 
-pub table_allows : TableAllows
+pub table_allows : TableKeepsAllowed
 table_allows t b total = (λ e. some (agreeing t.columns t.rows b) refl e, same)
   where
     c : inconsistent b ≡ false

@@ -37,8 +37,8 @@ RowAgrees =
     × (((i : ℕ) → i < length cs → knows a (slice_index cs i) (not (has row i)) ≡ false) → agrees cs row a ≡ true)
 
 -- a build comes back unchanged from a table exactly if some row agrees with it
-abbrev pub TableAllows : Type 0
-TableAllows =
+abbrev pub TableKeepsAllowed : Type 0
+TableKeepsAllowed =
     (t : Table) (b : Assignment) → Total b → (table_reply t b ≡ b → TableAllows t b) × (TableAllows t b → table_reply t b ≡ b)
 
 -- what a table adds where some row agrees
@@ -49,8 +49,8 @@ TableAdds =
     × ((knows a o v ≡ true) ⊎ TableForces t a o v → knows (table_reply t a) o v ≡ true)
 
 -- a build comes back unchanged from clauses exactly if each has a value that is not lost
-abbrev pub ClausesAllow : Type 0
-ClausesAllow =
+abbrev pub ClausesKeepAllowed : Type 0
+ClausesKeepAllowed =
     (cs : List (List Wanted)) (b : Assignment) → Total b
     → (clauses_reply cs b ≡ b → ClausesAllow cs b) × (ClausesAllow cs b → clauses_reply cs b ≡ b)
 

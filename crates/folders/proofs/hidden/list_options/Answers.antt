@@ -3,7 +3,7 @@ use Rattle.std.proofs.Common.{◌+◌, ◌<◌, cond, [], ◌∷◌, ◌++◌, l
 use Rattle.std.proofs.lemmas.List.{take_more_set}
 use Rattle.assignment.specs.Options.{options_below}
 use Rattle.folders.proofs.hidden.list_options.Goals as goal
-use Rattle.folders.proofs.hidden.list_options.Goals.{then-has-bit, else-has-bit}
+use Rattle.folders.proofs.hidden.list_options.Goals.{then-has_bit, else-has_bit}
 
 pub loop-option-init : goal.loop-option-init
 unfolding options_below
@@ -16,7 +16,7 @@ loop-option-preserved c =
     let mask = c.args.mask in
     let so_far = options_below n mask in
     elim c.if-has_bit.branch [
-      | then-has-bit w ↦
+      | then-has_bit w ↦
           let room : c.loop-option.count < length c.loop-option.list = omega (arith, c.requires) in
           let bit = sym c.has_bit.ensures ∙ w.if-has_bit.true in (
             omega (arith, w.count-is),
@@ -25,7 +25,7 @@ loop-option-preserved c =
                 ∙ ap (λ xs. xs ++ n ∷ []) c.loop-option.invariant.1
                 ∙ sym (ap (λ b. so_far ++ cond b (n ∷ []) []) bit) ∙ sym (ap (λ k. options_below k mask) (add-one n)),
           )
-      | else-has-bit w ↦
+      | else-has_bit w ↦
           let bit = sym c.has_bit.ensures ∙ w.if-has_bit.false in (
             omega (arith, w.count-is),
             ap (λ k. take k c.if-has_bit.list) w.count-is ∙ ap (take c.loop-option.count) w.list-is

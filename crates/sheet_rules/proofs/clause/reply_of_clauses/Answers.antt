@@ -33,7 +33,7 @@ returns-in_default c =
     let reply = c.loop-clause.reply in
     let rest = clauses_of c.next.new.self.rest.now in
     let clause = map wanted_of c.in-Some.clause.rest.now in
-    let all = ap (λ it. it.rest.now) c.into_iter-clause-iterator.ensures.into_iter-gives ∙ c.clauses-clause-items.ensures in
+    let all = ap (λ it. it.rest.now) c.into_iter-clause-iterator.ensures.into_iter_gives ∙ c.clauses-clause-items.ensures in
     c.contradiction-in_default.ensures.answer ∙ sym (none_left question clause rest reply c.in_default.ensures)
     ∙ sym (ap (λ cs. add_clauses question cs reply) c.in-Some.ensures.steps) ∙ c.loop-clause.invariant.2
     ∙ ap (λ body. add_clauses question (clauses_of body) question) all
@@ -56,7 +56,7 @@ pub returns : goal.returns
 unfolding add_clauses
 returns c =
     let question = c.args.question in
-    let all = ap (λ it. it.rest.now) c.into_iter-clause-iterator.ensures.into_iter-gives ∙ c.clauses-clause-items.ensures in
+    let all = ap (λ it. it.rest.now) c.into_iter-clause-iterator.ensures.into_iter_gives ∙ c.clauses-clause-items.ensures in
     sym (ap (λ cs. add_clauses question cs c.loop-clause.reply) c.in-None.ensures.steps.0)
     ∙ c.loop-clause.invariant.2 ∙ ap (λ body. add_clauses question (clauses_of body) question) all
     ∙ sym (consistent_reply (clauses_in c.args.sheet.now) question (sym c.if-is_inconsistent.ensures.answer))

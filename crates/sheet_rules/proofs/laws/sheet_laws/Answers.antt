@@ -8,8 +8,8 @@ pub returns : goal.returns
 returns c =
     record {
       rows = λ cs row a. (agrees_at cs row a, agrees_by cs row a);
-      tables-allow = table_allows;
-      tables-add = table_adds;
+      tables_allow = table_allows;
+      tables_add = table_adds;
       wanted = not_lost_had;
       clauses_allow = clauses_allow;
       clauses_add = clauses_add;

@@ -30,6 +30,6 @@ returns c =
     let question = c.args.question in
     let columns = columns_of (table_body c.args.sheet.now) in
     let known = c.of-known.ensures ∙ ap (λ cs. known_of cs question) c.columns.ensures in
-    let all = ap (λ it. rows_in it.rest.now) c.into_iter-row-iterator.ensures.into_iter-gives ∙ c.rows-row-items.ensures in
+    let all = ap (λ it. rows_in it.rest.now) c.into_iter-row-iterator.ensures.into_iter_gives ∙ c.rows-row-items.ensures in
     sym (ap (λ rows. gathered c.loop-row.common (agreeing columns rows question)) c.in-None.ensures.steps.0)
     ∙ c.loop-row.invariant.2 columns question known ∙ ap (λ rows. gathered None (agreeing columns rows question)) all

@@ -55,7 +55,7 @@ returns-in_err-rest c =
     rw (p.1, p.2, fits) (sym e ∙ c.loop-rest.invariant.0)
 
 -- what follows the record, by its bytes
-after_is : (c : goal.In-ok-rest) → c.in_ok-rest.rest.now ≡ drop (record_size c.loop-rest.rest.now) c.loop-rest.rest.now
+after_is : (c : goal.In_ok-rest) → c.in_ok-rest.rest.now ≡ drop (record_size c.loop-rest.rest.now) c.loop-rest.rest.now
 after_is c =
     let r = c.loop-rest.reader in
     let rest = c.loop-rest.rest.now in
