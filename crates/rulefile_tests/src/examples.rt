@@ -96,7 +96,8 @@ fn expect_cut(rt: &impl Abort, heap: Global, size: usize) -> Result<(), Fail> {
     }
     let number = if place == size { 11 } else { 2 };
     let words = format!(in heap; "refused {number} record {place} 0")?;
-    expect(rt, heap, "a cut", part, words.as_str()).note(size)
+    let case = format!(in heap; "the first {size} bytes")?;
+    expect(rt, heap, case.as_str(), part, words.as_str())
 }
 
 #[test]

@@ -19,7 +19,7 @@ returns c =
     let checks = clauses_checks c.args.options 0 bytes in
     let ok = sym c.in-Ok.ensures in
     let items =
-    c.push_reserved.ensures.items ∙ ap (λ l. l ++ sheet ∷ []) c.in-Ok-with_capacity.ensures.made.0 in (
+    c.push_reserved.ensures.items ∙ ap (λ l. l ++ sheet ∷ []) c.in-Ok-with_capacity.ensures.items in (
       passes_ok checks bytes (clause_body sheet) ok,
       c.new.ensures ∙ ap (map clauses_in) items ∙ ap (λ b. clauses_of b ∷ []) (judged_value checks bytes (clause_body sheet) ok),
     )
