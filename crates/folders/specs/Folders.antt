@@ -1,6 +1,6 @@
 -- A folder over any set of rules, and stacks of folders.
 use Rattle.std.specs.Prelude.{◌≤◌, List, [], ◌∷◌, map, length, slice_index_or}
-use Rattle.std.specs.List.{AllByRecursion as All}
+use Rattle.std.specs.List.{AllByRecursion}
 use Rattle.entries.specs.declared.entry.Entry.{Entry}
 use Rattle.entries.specs.declared.entry.Entry.TheVariants.{None}
 use Rattle.folders.specs.Entries.{Allowed, entry_allows, entry_reply}
@@ -25,4 +25,4 @@ stack_allows (es ∷ fs) below = stack_allows fs (folder_allows es below)
 
 -- each folder has at most 32 entries
 abbrev pub Small : List (List Entry) → Type 0
-Small fs = All (λ es. length es ≤ 32) fs
+Small fs = AllByRecursion (λ es. length es ≤ 32) fs

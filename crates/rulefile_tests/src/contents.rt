@@ -109,7 +109,11 @@ fn large_sheets(rt: HostRuntime) -> Result<(), Fail> {
     assert!(rt; file.clauses().len() == 1);
     assert_eq!(rt; file.clauses()[0].clauses().count(), 256);
     let table = file.tables()[0];
-    assert_eq!(rt; table.columns(), b"0123456789:;<=>?".as_slice(), "columns 48 to 63");
+    assert_eq!(rt;
+        table.columns(),
+        b"0123456789:;<=>?".as_slice(),
+        "columns 48 to 63"
+    );
     let mut total = 0u64;
     for row in table.rows() {
         total = total.wrapping_add(u64::from(row));
