@@ -56,8 +56,8 @@ size_equal {b} {a} (suc n) r h o below v = go (cases_lt o n) (size_equal n r res
     here false = bit_equal (knows b n false) (knows a n false) (omega (arith, yes_up, no_up, size_up n r))
 
     go : (o < n) ⊎ (n ≤ o) → (o < n → (w : Bool) → knows b o w ≡ knows a o w) → (w : Bool) → knows b o w ≡ knows a o w
-    go (inl l) below-n w = below-n l w
-    go (inr l) below-n w =
+    go (inl l) below_n w = below_n l w
+    go (inr l) below_n w =
         let at : o ≡ n = omega arith in
         ap (λ p. knows b p w) at ∙ here w ∙ sym (ap (λ p. knows a p w) at)
 

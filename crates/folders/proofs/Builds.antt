@@ -106,8 +106,8 @@ selection_builds left right width x b t r = (to, from)
   where
     to : equate left right width x ≡ b → (x ≡ b) × PairsEqual left right width b
     to e =
-        let same-build = Laws.refines_antisym r (subst (λ z. Refines z x) e (Laws.equate_above left right width x)) in
-        (same-build, (equal_pairs left right width b t).0 (sym (ap (equate left right width) same-build) ∙ e))
+        let same_build = Laws.refines_antisym r (subst (λ z. Refines z x) e (Laws.equate_above left right width x)) in
+        (same_build, (equal_pairs left right width b t).0 (sym (ap (equate left right width) same_build) ∙ e))
 
     from : (x ≡ b) × PairsEqual left right width b → equate left right width x ≡ b
     from (e, p) = ap (equate left right width) e ∙ (equal_pairs left right width b t).1 p

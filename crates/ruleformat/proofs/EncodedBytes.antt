@@ -41,12 +41,12 @@ module _ (c : Contents) (fine : WellFormed c) where
   pub encode_bytes : Each Byte (encode c)
   encode_bytes =
       let question = encode_record 5 (c.asked ∷ []) in
-      let after-clauses = encode_folders c.folders ++ question in
-      let after-tables = encode_clauses c.clauses ++ after-clauses in
+      let after_clauses = encode_folders c.folders ++ question in
+      let after_tables = encode_clauses c.clauses ++ after_clauses in
       let asked_small : c.asked < 256 = omega (arith, top_few c.options (sheets c) c.folders fine.few_sheets fine.folders_fit, fine.asked_known) in
-      each_append Byte (encode_start c) (encode_tables c.tables ++ after-tables) (record_bytes 1 (start_body c) (start_bytes c fine))
-      (each_append Byte (encode_tables c.tables) after-tables tables_bytes
-      (each_append Byte (encode_clauses c.clauses) after-clauses clauses_bytes
+      each_append Byte (encode_start c) (encode_tables c.tables ++ after_tables) (record_bytes 1 (start_body c) (start_bytes c fine))
+      (each_append Byte (encode_tables c.tables) after_tables tables_bytes
+      (each_append Byte (encode_clauses c.clauses) after_clauses clauses_bytes
       (each_append Byte (encode_folders c.folders) question
       (folders_bytes c.options (sheets c) c.folders fine.few_options fine.few_sheets fine.folders_fit)
       (record_bytes 5 (c.asked ∷ []) (asked_small, tt)))))

@@ -114,9 +114,9 @@ module _ (total : ℕ) (c : Contents) (few : c.options ≤ 64) where
 reads_encoding : (total : ℕ) (c : Contents) → WellFormed c → Reads total 0 nothing (encode c) c
 reads_encoding total c fine =
     let question = encode_record 5 (c.asked ∷ []) in
-    let after-clauses = encode_folders c.folders ++ question in
-    let after-tables = encode_clauses c.clauses ++ after-clauses in
-    let after-start = encode_tables c.tables ++ after-tables in
+    let after_clauses = encode_folders c.folders ++ question in
+    let after_tables = encode_clauses c.clauses ++ after_clauses in
+    let after_start = encode_tables c.tables ++ after_tables in
     let few = fine.few_options in
     let fits : Fits 0 nothing 1 (start_body c) =
     record {
@@ -126,11 +126,11 @@ reads_encoding total c fine =
       room = refl;
       body_passes = start_passes c fine;
     } in
-    reads_record total 0 nothing c 1 (start_body c) after-start fits
-    (subst (λ d. Reads total 1 d after-start c) (sym (start_read c fine))
-    (reads_tables total c few 1 [] c.tables after-tables (omega arith) (omega arith) (omega (arith, fine.few_sheets)) fine.tables_fit
+    reads_record total 0 nothing c 1 (start_body c) after_start fits
+    (subst (λ d. Reads total 1 d after_start c) (sym (start_read c fine))
+    (reads_tables total c few 1 [] c.tables after_tables (omega arith) (omega arith) (omega (arith, fine.few_sheets)) fine.tables_fit
     (λ k low high.
-    reads_clauses total c few k [] c.clauses after-clauses low (omega arith) (omega (arith, fine.few_sheets)) fine.clauses_fit
+    reads_clauses total c few k [] c.clauses after_clauses low (omega arith) (omega (arith, fine.few_sheets)) fine.clauses_fit
     (λ j lower higher.
     reads_folders total c few j (sheets c) [] c.folders question lower (omega arith) (omega (arith, fine.few_folders)) refl
     fine.folders_fit (λ i lowest highest. reads_question total c few i lowest highest (subst (λ m. c.asked < m) (sym (rules_top c)) fine.asked_known))))))

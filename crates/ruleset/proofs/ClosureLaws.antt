@@ -22,7 +22,7 @@ asked_rounds (suc n) f l a h = go (inconsistent (f a)) refl (asked_rounds n f l 
     other : inconsistent (f a) ≡ false → (b : Bool) → same (f a) a ≡ b → (64 < n + size 64 (f a) → Asked f (f a) (rounds n f (f a))) → Asked f a (cond b a (rounds n f (f a)))
     other i true e rest = fixed i (same_true (f a) a e)
     other i false e rest =
-        let new : f a ≡ a → ⊥ = λ same-reply. both_ways (same (f a) a) e (true_same (f a) a same-reply) in
+        let new : f a ≡ a → ⊥ = λ same_reply. both_ways (same (f a) a) e (true_same (f a) a same_reply) in
         again i new (rest (omega (arith, size_grows (l.extensive a) new)))
 
     go : (b : Bool) → inconsistent (f a) ≡ b → (64 < n + size 64 (f a) → Asked f (f a) (rounds n f (f a))) → Asked f a (cond b contradiction (cond (same (f a) a) a (rounds n f (f a))))

@@ -82,8 +82,8 @@ search_fills f l os below c cov = both (finds (tree f os (closure f c))) (fills 
 
     back : fills f os c ≡ true → finds (tree f os (closure f c)) ≡ true
     back e =
-        let some-build = fills_sound f os c e in
-        some_finds (tree f os (closure f c)) some-build.0 (at.complete some-build.0 some-build.1)
+        let some_build = fills_sound f os c e in
+        some_finds (tree f os (closure f c)) some_build.0 (at.complete some_build.0 some_build.1)
 
     both : (p q : Bool) → (p ≡ true → q ≡ true) → (q ≡ true → p ≡ true) → p ≡ q
     both true q f g = sym (f refl)

@@ -76,25 +76,25 @@ lists_skip f o os c bs k rest =
 
 -- the builds with yes, and then those with no
 lists_choice : (f : Rule) → LawfulRule f → (o : ℕ) (os : List ℕ) (c : Assignment) (ys ns : List Assignment) → o < 64 → Lists os (Fits f (closure f (put o true c))) ys → Lists os (Fits f (closure f (put o false c))) ns → Lists (o ∷ os) (Fits f c) (ys ++ ns)
-lists_choice f l o os c ys ns h yes-rest no-rest =
+lists_choice f l o os c ys ns h yes_rest no_rest =
     record {
       sound = λ b m. fit b (Memᴰ.append_cases ys m);
       complete = λ b g. found b (fits_put f o c b h g);
-      ascending = ascending_append (Before (o ∷ os)) ys ns (ascending_same o os true ys has_yes yes-rest.ascending)
-          (ascending_same o os false ns (λ b m. no_yes f (closure f (put o false c)) b o (no-rest.sound b m) (chosen_has f l o false c h)) no-rest.ascending)
-          (λ b d m n. inl (has_yes b m, knows_up (no-rest.sound d n).1 o false (chosen_has f l o false c h)));
+      ascending = ascending_append (Before (o ∷ os)) ys ns (ascending_same o os true ys has_yes yes_rest.ascending)
+          (ascending_same o os false ns (λ b m. no_yes f (closure f (put o false c)) b o (no_rest.sound b m) (chosen_has f l o false c h)) no_rest.ascending)
+          (λ b d m n. inl (has_yes b m, knows_up (no_rest.sound d n).1 o false (chosen_has f l o false c h)));
     }
   where
     has_yes : (b : Assignment) → Memᴰ b ys → knows b o true ≡ true
-    has_yes b m = knows_up (yes-rest.sound b m).1 o true (chosen_has f l o true c h)
+    has_yes b m = knows_up (yes_rest.sound b m).1 o true (chosen_has f l o true c h)
 
     fit : (b : Assignment) → Memᴰ b ys ⊎ Memᴰ b ns → Fits f c b
-    fit b (inl m) = fits_down f b (chosen_above f l o true c) (yes-rest.sound b m)
-    fit b (inr m) = fits_down f b (chosen_above f l o false c) (no-rest.sound b m)
+    fit b (inl m) = fits_down f b (chosen_above f l o true c) (yes_rest.sound b m)
+    fit b (inr m) = fits_down f b (chosen_above f l o false c) (no_rest.sound b m)
 
     found : (b : Assignment) → Fits f (put o true c) b ⊎ Fits f (put o false c) b → Memᴰ b (ys ++ ns)
-    found b (inl g) = Memᴰ.append_left ns (yes-rest.complete b (fits_closure f l (put o true c) b g))
-    found b (inr g) = Memᴰ.append_right ys (no-rest.complete b (fits_closure f l (put o false c) b g))
+    found b (inl g) = Memᴰ.append_left ns (yes_rest.complete b (fits_closure f l (put o true c) b g))
+    found b (inr g) = Memᴰ.append_right ys (no_rest.complete b (fits_closure f l (put o false c) b g))
 
 lists_tree : (f : Rule) → LawfulRule f → (os : List ℕ) → Below os → (c : Assignment) → f c ≡ c → Covers os c → Lists os (Fits f c) (leaves (tree f os c))
 lists_tree f l [] below c s cov = go (inconsistent c) refl

@@ -3,7 +3,7 @@ ghost use Rattle.std.specs.Prelude.{◌≡◌, ◌+◌, ◌%◌, min, [], ◌∷
 ghost use Rattle.refusals.specs.Checks.{judged, seen, when};
 ghost use Rattle.refusals.specs.declared.refusal.Refusal.TheVariants.{Unfit};
 ghost use Rattle.ruleformat.specs.Records.{at};
-ghost use Rattle.ruleformat.specs.Tables.{column_checks, columns_of, row_checks, rows_in, rows_of, table_checks, unfit_table, width as width_of_lem};
+ghost use Rattle.ruleformat.specs.Tables.{column_checks, columns_of, row_checks, rows_in, rows_of, table_checks, unfit_table, width as width_of};
 ghost use Rattle.sheets.specs.Views.{table_body};
 
 use crate::walk::Rows;
@@ -55,7 +55,7 @@ impl<'a> TableSheet<'a> {
 
 // Where the columns end: as far as their number says, or as the body goes.
 fn columns_end(body: &[u8]) -> usize
-    ensures { result ≡ min (length body.now) (1 + width_of_lem body.now) }
+    ensures { result ≡ min (length body.now) (1 + width_of body.now) }
 {
     if body.is_empty() {
         return 0;
@@ -65,7 +65,7 @@ fn columns_end(body: &[u8]) -> usize
 
 // How many columns there are, where the body has room for them and for whole rows.
 fn count_columns(body: &[u8], place: usize) -> Result<usize, RecordFault>
-    ensures { result ≡ judged (when (unfit_table body.now) (at Unfit place) ∷ []) (width_of_lem body.now) }
+    ensures { result ≡ judged (when (unfit_table body.now) (at Unfit place) ∷ []) (width_of body.now) }
 {
     let unfit = RecordFault {
         refusal: Refusal::Unfit,

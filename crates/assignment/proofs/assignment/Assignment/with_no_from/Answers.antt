@@ -10,8 +10,8 @@ unfolding no_from
 returns c =
     let a = c.args.self in
     let r = no_from c.args.first a in
-    let no-is = c.merged.ensures ∙ ap (bit_or a.no) c.high_bits.ensures in
+    let no_is = c.merged.ensures ∙ ap (bit_or a.no) c.high_bits.ensures in
     record {
-      answer = masks_equal _ r refl no-is;
-      options = λ o v h. masks_know _ r refl no-is o v ∙ no_from_knows c.args.first a o v h;
+      answer = masks_equal _ r refl no_is;
+      options = λ o v h. masks_know _ r refl no_is o v ∙ no_from_knows c.args.first a o v h;
     }
