@@ -3,11 +3,11 @@
 # Needs rt and rustc. See README.md here.
 set -eu
 cd "$(dirname "$0")/.."
-kit=$(dirname "$(dirname "$(rt doc)")")
+kit=$(dirname "$(rt doc)")
 mkdir -p bench/target
-rt staticlib facade >bench/target/staticlib.log 2>&1 || { cat bench/target/staticlib.log; exit 1; }
+(cd crates/facade && rt lib) >bench/target/staticlib.log 2>&1 || { cat bench/target/staticlib.log; exit 1; }
 rustc --edition 2024 -C opt-level=3 -C codegen-units=1 -C panic=abort \
-    -L target/staticlib -L "$kit/lib" -l static=facade -l static=rattle_c \
+    -L crates/facade/out -L "$kit/c" -l static=facade -l static=libc_c \
     -C link-arg=-Wl,--wrap=malloc,--wrap=calloc,--wrap=realloc \
     -o bench/target/compare bench/main.rs
 exec bench/target/compare

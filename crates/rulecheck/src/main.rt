@@ -5,17 +5,20 @@ use refusals::FileFault;
 use rulefile::{Space, read};
 use std::io;
 use std::io::{BufWriter, Write};
+use std::process::ExitCode;
 
 mod entry;
 mod load;
 mod report;
 
-fn main(rt: HostRuntime) -> io::Result<()> {
-    let result = run(&rt);
-    if let Err(e) = &result {
-        let _ = eprintln!(rt; "rulecheck: {e}");
+fn main(rt: HostRuntime) -> ExitCode {
+    match run(&rt) {
+        Ok(()) => ExitCode::SUCCESS,
+        Err(e) => {
+            let _ = eprintln!(rt; "rulecheck: {e}");
+            ExitCode::FAILURE
+        }
     }
-    result
 }
 
 fn run(rt: &HostRuntime) -> io::Result<()> {

@@ -1,6 +1,6 @@
 -- The draft has no entry yet, so its checks are those of the projection alone.
 use Rattle.std.proofs.Common.{◌≡◌, ℕ, [], ◌∷◌, ◌++◌, length, vec_items, vec_len, sym, ap, ◌∙◌}
-use Rattle.entries.specs.Drafts.{draft_checks, drafted}
+use Rattle.entries.specs.Drafts.{draft_checks}
 use Rattle.entries.specs.declared.draft.Draft.{Draft}
 use Rattle.entries.specs.declared.entry.Entry.TheVariants.{Projection}
 use Rattle.ruleformat.specs.Encoding.{fields_for}
