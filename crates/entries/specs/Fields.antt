@@ -1,5 +1,5 @@
 -- The fields of an entry: the codes of the ops, what the fields stand for, and the checks on them in their order.
-use Rattle.std.specs.Prelude.{ℕ, ◌+◌, ◌%◌, ◌^◌, Bool, false, cond, ◌&&◌, ◌||◌, leb, List, [], ◌∷◌, ◌==◌, count_ones, nat_le, nat_lt}
+use Rattle.std.specs.Prelude.{ℕ, ◌+◌, ◌%◌, ◌^◌, Bool, false, cond, ◌&&◌, ◌||◌, List, [], ◌∷◌, ◌==◌, count_ones, nat_le, nat_lt}
 use Rattle.refusals.specs.Checks.{Check, when}
 use Rattle.refusals.specs.declared.refusal.Refusal.{Refusal}
 use Rattle.refusals.specs.declared.refusal.Refusal.TheVariants.{OutOfRange, NoSuchRule, BeyondOptions, Conflict, TooManyHidden}
@@ -59,8 +59,8 @@ sets_unused f =
 -- a rule is named at or above the count below
 abbrev pub unknown_rule : ℕ → EntryFields → Bool
 unknown_rule below f =
-    let first_unknown : Bool = leb below f.first in
-    let either_unknown : Bool = nat_le below f.first || leb below f.second in
+    let first_unknown : Bool = nat_le below f.first in
+    let either_unknown : Bool = nat_le below f.first || nat_le below f.second in
     by_op f.op first_unknown either_unknown either_unknown first_unknown first_unknown first_unknown false
 
 -- a selection's width is not 1 to 32
