@@ -4,7 +4,6 @@
 //   - `FOUR` and the other names below, a whole record;
 //   - `TABLE*32` or `0A0B*3`, a word so many times in a row.
 use std::alloc::Global;
-use std::process::Abort;
 use std::test::Fail;
 
 // The example of docs/FORMAT.md, whose records begin at 0, 21, 34, 44 and 60.
@@ -33,7 +32,7 @@ const CARRY: &[u8; 16] = b"\x0c\0\x04\0\0\0\0\0\0\0\0\0\0\0\0\0";
 const ASK: &[u8; 5] = b"\x01\0\x05\0\0";
 
 // The bytes that the words stand for.
-pub(crate) fn bytes_of(rt: &impl Abort, heap: Global, words: &str) -> Result<Vec<u8>, Fail> {
+pub(crate) fn bytes_of(heap: Global, words: &str) -> Result<Vec<u8>, Fail> {
     let mut bytes = Vec::new(heap);
     for word in words.split_whitespace() {
         let (part, count) = match word.split_once('*') {
@@ -41,13 +40,13 @@ pub(crate) fn bytes_of(rt: &impl Abort, heap: Global, words: &str) -> Result<Vec
             None => (word, 1),
         };
         for _ in 0..count {
-            add_word(rt, &mut bytes, part)?;
+            add_word(&mut bytes, part)?;
         }
     }
     Ok(bytes)
 }
 
-fn add_word(rt: &impl Abort, bytes: &mut Vec<u8>, word: &str) -> Result<(), Fail> {
+fn add_word(bytes: &mut Vec<u8>, word: &str) -> Result<(), Fail> {
     if let Some((kind, size)) = word.split_once(':') {
         return add_head(bytes, kind, size.parse::<u16>()?);
     }
@@ -59,7 +58,7 @@ fn add_word(rt: &impl Abort, bytes: &mut Vec<u8>, word: &str) -> Result<(), Fail
         "CLAUSES" => bytes.extend_from_slice(CLAUSES)?,
         "CARRY" => bytes.extend_from_slice(CARRY)?,
         "ASK" => bytes.extend_from_slice(ASK)?,
-        _ => add_hex(rt, bytes, word)?,
+        _ => add_hex(bytes, word)?,
     }
     Ok(())
 }
@@ -78,7 +77,7 @@ fn add_head(bytes: &mut Vec<u8>, kind: &str, size: u16) -> Result<(), Fail> {
     Ok(())
 }
 
-fn add_hex(rt: &impl Abort, bytes: &mut Vec<u8>, digits: &str) -> Result<(), Fail> {
+fn add_hex(bytes: &mut Vec<u8>, digits: &str) -> Result<(), Fail> {
     let mut high = None;
     for digit in digits.bytes() {
         let value = hex_value(digit)?;
@@ -90,7 +89,9 @@ fn add_hex(rt: &impl Abort, bytes: &mut Vec<u8>, digits: &str) -> Result<(), Fai
             }
         }
     }
-    assert!(rt; high.is_none(), "half a byte");
+    if high.is_some() {
+        return Err(Fail::new("half a byte"));
+    }
     Ok(())
 }
 

@@ -1,36 +1,38 @@
 // Accepted files give back what they hold.
 use crate::build::{SAMPLE, bytes_of};
+use crate::expect::{same_number, same_text};
 use crate::view::{show_clauses, show_folders, show_tables};
 use assignment::Value;
 use rulefile::{RuleFile, Space, read};
 use std::alloc::Global;
-use std::process::Abort;
 use std::test::Fail;
 
 // The start and the asked rule.
-fn expect_start(rt: &impl Abort, file: &RuleFile, options: u32, yes: u64, no: u64, asked: u32) {
-    assert_eq!(rt; file.options(), options);
-    assert_eq!(rt; file.start().yes_mask(), yes);
-    assert_eq!(rt; file.start().no_mask(), no);
-    assert_eq!(rt; file.asked(), asked);
+fn expect_start(file: &RuleFile, options: u32, yes: u64, no: u64, asked: u32) -> Result<(), Fail> {
+    same_number(file.options() as u64, options as u64, "options")?;
+    same_number(file.start().yes_mask(), yes, "start yes")?;
+    same_number(file.start().no_mask(), no, "start no")?;
+    same_number(file.asked() as u64, asked as u64, "asked rule")
 }
 
 // The layers, each shown as text.
 fn expect_layers(
-    rt: &impl Abort,
     heap: Global,
     file: &RuleFile,
     tables: &str,
     clauses: &str,
     folders: &str,
 ) -> Result<(), Fail> {
-    assert_eq!(rt; show_tables(heap, file.tables())?.as_str(), tables);
-    assert_eq!(rt; show_clauses(heap, file.clauses())?.as_str(), clauses);
-    assert_eq!(rt; show_folders(heap, file)?.as_str(), folders);
-    assert!(rt;
-        file.folder(file.folder_count()).is_none(),
-        "no folder past the last"
-    );
+    same_text(show_tables(heap, file.tables())?.as_str(), tables, "tables")?;
+    same_text(
+        show_clauses(heap, file.clauses())?.as_str(),
+        clauses,
+        "clauses",
+    )?;
+    same_text(show_folders(heap, file)?.as_str(), folders, "folders")?;
+    if file.folder(file.folder_count()).is_some() {
+        return Err(Fail::new("a folder past the last"));
+    }
     Ok(())
 }
 
@@ -41,16 +43,9 @@ fn sample(rt: HostRuntime) -> Result<(), Fail> {
     let Ok(file) = read(space, SAMPLE) else {
         return Err(Fail::new("the sample is refused"));
     };
-    expect_start(&rt, &file, 4, 0, 0, 0);
+    expect_start(&file, 4, 0, 0, 0)?;
     let clauses = "2 yes, 3 yes, ; 1 yes, 2 no, ; . ";
-    expect_layers(
-        &rt,
-        heap,
-        &file,
-        "0 1 : 0 2 3. ",
-        clauses,
-        "product 0 1; . ",
-    )
+    expect_layers(heap, &file, "0 1 : 0 2 3. ", clauses, "product 0 1; . ")
 }
 
 // Three tables and two clauses records, a folder with an entry of each op, and a folder over that one.
@@ -64,23 +59,23 @@ const LAYERS: &str = "start:17 40 01 00*6 80 02 01 00*6
 #[test]
 fn layers(rt: HostRuntime) -> Result<(), Fail> {
     let heap = rt.alloc();
-    let bytes = bytes_of(&rt, heap, LAYERS)?;
+    let bytes = bytes_of(heap, LAYERS)?;
     let space = Space::reserve(heap)?;
     let Ok(file) = read(space, bytes.as_slice()) else {
         return Err(Fail::new("the file is refused"));
     };
-    expect_start(&rt, &file, 64, 0x8000_0000_0000_0001, 0x0102, 1);
+    expect_start(&file, 64, 0x8000_0000_0000_0001, 0x0102, 1)?;
     let tables = "0 :. 5 63 : 3 0 3. 7 : 1. ";
     let clauses = ". 63 no, ; 0 yes, 1 no, ; . ";
     let folders =
         "carry 4; product 0 4; either 4 0; selection 1 34 2 30; projection 2 32769; complement 3; none; . carry 6; either 6 6; . ";
-    expect_layers(&rt, heap, &file, tables, clauses, folders)
+    expect_layers(heap, &file, tables, clauses, folders)
 }
 
 #[test]
 fn known_values(rt: HostRuntime) -> Result<(), Fail> {
     let heap = rt.alloc();
-    let bytes = bytes_of(&rt, heap, "start:17 40 00*7 80 02 00*7 TABLE ASK")?;
+    let bytes = bytes_of(heap, "start:17 40 00*7 80 02 00*7 TABLE ASK")?;
     let space = Space::reserve(heap)?;
     let Ok(file) = read(space, bytes.as_slice()) else {
         return Err(Fail::new("the file is refused"));
@@ -100,7 +95,7 @@ const LARGE: &str =
 #[test]
 fn large_sheets(rt: HostRuntime) -> Result<(), Fail> {
     let heap = rt.alloc();
-    let bytes = bytes_of(&rt, heap, LARGE)?;
+    let bytes = bytes_of(heap, LARGE)?;
     let space = Space::reserve(heap)?;
     let Ok(file) = read(space, bytes.as_slice()) else {
         return Err(Fail::new("the file is refused"));

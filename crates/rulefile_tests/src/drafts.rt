@@ -1,8 +1,8 @@
 // Drafts that are filled without a file.
+use crate::expect::{same_number, same_text};
 use crate::view::show_draft;
 use entries::{Draft, EntryFields, EntrySpace};
 use std::alloc::{AllocError, Global};
-use std::process::Abort;
 use std::test::Fail;
 
 fn draft(heap: Global, options: u32, below: u32) -> Result<Draft, AllocError> {
@@ -12,7 +12,6 @@ fn draft(heap: Global, options: u32, below: u32) -> Result<Draft, AllocError> {
 // Adds entries in their order. Each is given by its five fields and the number with which it is refused, 0 if it is
 // accepted; a refused one leaves the draft as it was.
 fn add_each(
-    rt: &impl Abort,
     heap: Global,
     draft: &mut Draft,
     cases: &[(u8, u8, u8, u8, u64, u8)],
@@ -30,14 +29,11 @@ fn add_each(
             Ok(()) => 0,
             Err(refusal) => refusal.number(),
         };
-        assert_eq!(rt; answer, *number, "{op} {first} {second} {third} {word}");
+        let case = format!(in heap; "{op} {first} {second} {third} {word}")?;
+        same_number(u64::from(answer), u64::from(*number), case.as_str())?;
         let after = show_draft(heap, draft)?;
         if answer != 0 {
-            assert_eq!(rt;
-                after.as_str(),
-                before.as_str(),
-                "{op} {first} {second} {third} {word}"
-            );
+            same_text(after.as_str(), before.as_str(), case.as_str())?;
         }
     }
     Ok(())
@@ -45,14 +41,13 @@ fn add_each(
 
 // The draft that comes of such entries, as text.
 fn filled(
-    rt: &impl Abort,
     heap: Global,
     options: u32,
     below: u32,
     cases: &[(u8, u8, u8, u8, u64, u8)],
 ) -> Result<String, Fail> {
     let mut draft = draft(heap, options, below)?;
-    add_each(rt, heap, &mut draft, cases)?;
+    add_each(heap, &mut draft, cases)?;
     Ok(show_draft(heap, &draft)?)
 }
 
@@ -70,26 +65,19 @@ const ALL_REFUSED: [(u8, u8, u8, u8, u64, u8); 7] = [
 #[test]
 fn options_told(rt: HostRuntime) -> Result<(), Fail> {
     let heap = rt.alloc();
+    assert_eq!(rt; filled(heap, 0, 2, &ALL_REFUSED)?.as_str(), "0 over 2: ");
+    assert_eq!(rt; filled(heap, 65, 2, &ALL_REFUSED)?.as_str(), "65 over 2: ");
     assert_eq!(rt;
-        filled(&rt, heap, 0, 2, &ALL_REFUSED)?.as_str(),
-        "0 over 2: "
-    );
-    assert_eq!(rt;
-        filled(&rt, heap, 65, 2, &ALL_REFUSED)?.as_str(),
-        "65 over 2: "
-    );
-    assert_eq!(rt;
-        filled(&rt, heap, 256, 2, &ALL_REFUSED)?.as_str(),
+        filled(heap, 256, 2, &ALL_REFUSED)?.as_str(),
         "256 over 2: "
     );
     assert_eq!(rt;
-        filled(&rt, heap, u32::MAX, 2, &ALL_REFUSED)?.as_str(),
+        filled(heap, u32::MAX, 2, &ALL_REFUSED)?.as_str(),
         "4294967295 over 2: "
     );
-    let one = filled(&rt, heap, 1, 2, &[(4, 1, 0, 0, 1, 0), (4, 1, 0, 0, 2, 7)])?;
+    let one = filled(heap, 1, 2, &[(4, 1, 0, 0, 1, 0), (4, 1, 0, 0, 2, 7)])?;
     assert_eq!(rt; one.as_str(), "1 over 2: projection 1 1; ");
     let most = filled(
-        &rt,
         heap,
         64,
         2,
@@ -110,30 +98,17 @@ fn options_told(rt: HostRuntime) -> Result<(), Fail> {
 fn rules_told(rt: HostRuntime) -> Result<(), Fail> {
     let heap = rt.alloc();
     let none = filled(
-        &rt,
         heap,
         4,
         0,
         &[(0, 0, 0, 0, 0, 10), (6, 0, 0, 0, 0, 0), (5, 0, 0, 0, 0, 10)],
     )?;
     assert_eq!(rt; none.as_str(), "4 over 0: none; ");
-    let most = filled(
-        &rt,
-        heap,
-        4,
-        255,
-        &[(0, 254, 0, 0, 0, 0), (0, 255, 0, 0, 0, 10)],
-    )?;
+    let most = filled(heap, 4, 255, &[(0, 254, 0, 0, 0, 0), (0, 255, 0, 0, 0, 10)])?;
     assert_eq!(rt; most.as_str(), "4 over 255: carry 254; ");
-    let more = filled(
-        &rt,
-        heap,
-        4,
-        256,
-        &[(5, 255, 0, 0, 0, 0), (2, 0, 255, 0, 0, 0)],
-    )?;
+    let more = filled(heap, 4, 256, &[(5, 255, 0, 0, 0, 0), (2, 0, 255, 0, 0, 0)])?;
     assert_eq!(rt; more.as_str(), "4 over 256: complement 255; either 0 255; ");
-    let any = filled(&rt, heap, 4, u32::MAX, &[(1, 255, 0, 0, 0, 0)])?;
+    let any = filled(heap, 4, u32::MAX, &[(1, 255, 0, 0, 0, 0)])?;
     assert_eq!(rt; any.as_str(), "4 over 4294967295: product 255 0; ");
     Ok(())
 }
@@ -161,7 +136,7 @@ const MIXED: [(u8, u8, u8, u8, u64, u8); 16] = [
 
 #[test]
 fn refused_entries(rt: HostRuntime) -> Result<(), Fail> {
-    let text = filled(&rt, rt.alloc(), 20, 2, &MIXED)?;
+    let text = filled(rt.alloc(), 20, 2, &MIXED)?;
     assert_eq!(rt;
         text.as_str(),
         "20 over 2: product 0 1; projection 1 1048560; "
@@ -187,10 +162,10 @@ fn full_draft(rt: HostRuntime) -> Result<(), Fail> {
     let mut draft = draft(heap, 64, 32)?;
     for rule in 0..32u8 {
         assert_eq!(rt; draft.entries().len(), usize::from(rule));
-        add_each(&rt, heap, &mut draft, &[(0, rule, 0, 0, 0, 0)])?;
+        add_each(heap, &mut draft, &[(0, rule, 0, 0, 0, 0)])?;
     }
     assert_eq!(rt; draft.entries().len(), 32);
-    add_each(&rt, heap, &mut draft, &ONE_MORE)?;
+    add_each(heap, &mut draft, &ONE_MORE)?;
     assert_eq!(rt; draft.entries().len(), 32);
     let text = show_draft(heap, &draft)?;
     assert!(rt;

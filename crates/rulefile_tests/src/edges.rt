@@ -2,13 +2,11 @@
 use crate::build::bytes_of;
 use crate::expect::{expect, expect_all};
 use std::alloc::Global;
-use std::process::Abort;
 use std::test::Fail;
 
 #[test]
 fn options(rt: HostRuntime) -> Result<(), Fail> {
     expect_all(
-        &rt,
         rt.alloc(),
         "
         1 option | start:17 01 01 00*7 00*8 TABLE ASK | options 1
@@ -31,7 +29,6 @@ fn options(rt: HostRuntime) -> Result<(), Fail> {
 #[test]
 fn columns(rt: HostRuntime) -> Result<(), Fail> {
     expect_all(
-        &rt,
         rt.alloc(),
         "
         0 columns | MANY table:1 00 ASK | refused 6 record 21 0
@@ -48,7 +45,6 @@ fn columns(rt: HostRuntime) -> Result<(), Fail> {
 #[test]
 fn rows(rt: HostRuntime) -> Result<(), Fail> {
     expect_all(
-        &rt,
         rt.alloc(),
         "
         0 rows | MANY table:2 01 05 ASK | options 64
@@ -65,7 +61,6 @@ fn rows(rt: HostRuntime) -> Result<(), Fail> {
 #[test]
 fn clauses(rt: HostRuntime) -> Result<(), Fail> {
     expect_all(
-        &rt,
         rt.alloc(),
         "
         0 clauses | MANY clauses:0 ASK | options 64
@@ -85,7 +80,6 @@ fn clauses(rt: HostRuntime) -> Result<(), Fail> {
 #[test]
 fn entries_of_a_folder(rt: HostRuntime) -> Result<(), Fail> {
     expect_all(
-        &rt,
         rt.alloc(),
         "
         0 entries | MANY folder:0 ASK | refused 6 record 21 0
@@ -102,7 +96,6 @@ fn entries_of_a_folder(rt: HostRuntime) -> Result<(), Fail> {
 #[test]
 fn widths(rt: HostRuntime) -> Result<(), Fail> {
     expect_all(
-        &rt,
         rt.alloc(),
         "
         width 0 | MANY TABLE folder:12 03 00 00 20 00*8 ASK | refused 9 folder 27 0
@@ -120,7 +113,6 @@ fn widths(rt: HostRuntime) -> Result<(), Fail> {
 #[test]
 fn ranges(rt: HostRuntime) -> Result<(), Fail> {
     expect_all(
-        &rt,
         rt.alloc(),
         "
         right ends at n | start:17 0A 00*16 TABLE folder:12 03 00 00 07 03 00*7 ASK | options 10
@@ -145,7 +137,6 @@ fn ranges(rt: HostRuntime) -> Result<(), Fail> {
 #[test]
 fn hidden_options(rt: HostRuntime) -> Result<(), Fail> {
     expect_all(
-        &rt,
         rt.alloc(),
         "
         none hidden | MANY TABLE folder:12 04 00 00 00 00*8 ASK | options 64
@@ -165,7 +156,6 @@ fn hidden_options(rt: HostRuntime) -> Result<(), Fail> {
 #[test]
 fn sheets(rt: HostRuntime) -> Result<(), Fail> {
     expect_all(
-        &rt,
         rt.alloc(),
         "
         32 tables | FOUR TABLE*32 question:1 1F | options 4
@@ -183,7 +173,6 @@ fn sheets(rt: HostRuntime) -> Result<(), Fail> {
 #[test]
 fn folders(rt: HostRuntime) -> Result<(), Fail> {
     expect_all(
-        &rt,
         rt.alloc(),
         "
         4 folders | FOUR TABLE CARRY*4 ASK | options 4
@@ -196,23 +185,18 @@ fn folders(rt: HostRuntime) -> Result<(), Fail> {
 
 // A file of 32,768 bytes: a start of 21, seven clauses records of 4 + 256 * 17, one of 4 + 132 * 17 + 2, and a question
 // of 5. The bytes that the words stand for follow it.
-fn largest(rt: &impl Abort, heap: Global, more: &str) -> Result<Vec<u8>, Fail> {
-    let mut file = bytes_of(rt, heap, "start:17 10 00*16")?;
-    let sheet = bytes_of(
-        rt,
-        heap,
-        "clauses:4352 10000102030405060708090A0B0C0D0E0F*256",
-    )?;
+fn largest(heap: Global, more: &str) -> Result<Vec<u8>, Fail> {
+    let mut file = bytes_of(heap, "start:17 10 00*16")?;
+    let sheet = bytes_of(heap, "clauses:4352 10000102030405060708090A0B0C0D0E0F*256")?;
     for _ in 0..7 {
         file.extend_from_slice(sheet.as_slice())?;
     }
     let last = bytes_of(
-        rt,
         heap,
         "clauses:2246 10000102030405060708090A0B0C0D0E0F*132 0100 ASK",
     )?;
     file.extend_from_slice(last.as_slice())?;
-    let extra = bytes_of(rt, heap, more)?;
+    let extra = bytes_of(heap, more)?;
     file.extend_from_slice(extra.as_slice())?;
     Ok(file)
 }
@@ -220,27 +204,24 @@ fn largest(rt: &impl Abort, heap: Global, more: &str) -> Result<Vec<u8>, Fail> {
 #[test]
 fn bytes(rt: HostRuntime) -> Result<(), Fail> {
     let heap = rt.alloc();
-    let whole = largest(&rt, heap, "")?;
+    let whole = largest(heap, "")?;
     assert_eq!(rt; whole.len(), 32768);
-    expect(&rt, heap, "32,768 bytes", whole.as_slice(), "options 16")?;
-    let longer = largest(&rt, heap, "00")?;
+    expect(heap, "32,768 bytes", whole.as_slice(), "options 16")?;
+    let longer = largest(heap, "00")?;
     expect(
-        &rt,
         heap,
         "32,769 bytes, the last no head",
         longer.as_slice(),
         "refused 1 record 0 0",
     )?;
-    let longest = largest(&rt, heap, "ASK")?;
+    let longest = largest(heap, "ASK")?;
     expect(
-        &rt,
         heap,
         "32,773 bytes, the last a question",
         longest.as_slice(),
         "refused 1 record 0 0",
     )?;
     expect_all(
-        &rt,
         heap,
         "
         32,768 zeros | 00*32768 | refused 3 record 0 0

@@ -2,27 +2,28 @@
 use crate::build::SAMPLE;
 use crate::expect::{expect, expect_all};
 use std::alloc::Global;
-use std::process::Abort;
 use std::test::Fail;
 
 // The sample with other bytes at some places, each written as the place, `=` and the byte.
-fn changed(rt: &impl Abort, changes: &str) -> Result<[u8; 65], Fail> {
+fn changed(changes: &str) -> Result<[u8; 65], Fail> {
     let mut bytes = *SAMPLE;
     for change in changes.split_whitespace() {
         let (place, value) = change.split_once('=').ok_or("no byte")?;
         let at = place.parse::<usize>()?;
-        assert!(rt; at < 65);
+        if at >= 65 {
+            return Err(Fail::new("no such place"));
+        }
         bytes[at] = u8::from_str_radix(value, 16)?;
     }
     Ok(bytes)
 }
 
 // Each line is a case: changes, a `|`, and what is told of the sample with them.
-fn expect_changed(rt: &impl Abort, heap: Global, cases: &str) -> Result<(), Fail> {
+fn expect_changed(heap: Global, cases: &str) -> Result<(), Fail> {
     for case in cases.trim().lines() {
         let (changes, words) = case.split_once('|').ok_or("no words")?;
-        let bytes = changed(rt, changes)?;
-        expect(rt, heap, changes, &bytes, words.trim())?;
+        let bytes = changed(changes)?;
+        expect(heap, changes, &bytes, words.trim())?;
     }
     Ok(())
 }
@@ -30,7 +31,6 @@ fn expect_changed(rt: &impl Abort, heap: Global, cases: &str) -> Result<(), Fail
 #[test]
 fn changed_bytes(rt: HostRuntime) -> Result<(), Fail> {
     expect_changed(
-        &rt,
         rt.alloc(),
         "
         | options 4
@@ -67,7 +67,6 @@ fn changed_bytes(rt: HostRuntime) -> Result<(), Fail> {
 #[test]
 fn added_bytes(rt: HostRuntime) -> Result<(), Fail> {
     expect_all(
-        &rt,
         rt.alloc(),
         "
         no bytes at all | | refused 11 record 0 0
@@ -86,7 +85,7 @@ fn added_bytes(rt: HostRuntime) -> Result<(), Fail> {
 
 // The first `size` bytes of the sample: the place is where the last record begins that begins at or before their end.
 // The file is unfinished if that is their end, and cut if it is not.
-fn expect_cut(rt: &impl Abort, heap: Global, size: usize) -> Result<(), Fail> {
+fn expect_cut(heap: Global, size: usize) -> Result<(), Fail> {
     let part = SAMPLE.get(0..size).ok_or("longer than the sample")?;
     let mut place = 0;
     for begin in [21, 34, 44, 60] {
@@ -97,14 +96,14 @@ fn expect_cut(rt: &impl Abort, heap: Global, size: usize) -> Result<(), Fail> {
     let number = if place == size { 11 } else { 2 };
     let words = format!(in heap; "refused {number} record {place} 0")?;
     let case = format!(in heap; "the first {size} bytes")?;
-    expect(rt, heap, case.as_str(), part, words.as_str())
+    expect(heap, case.as_str(), part, words.as_str())
 }
 
 #[test]
 fn every_cut(rt: HostRuntime) -> Result<(), Fail> {
     let heap = rt.alloc();
     for size in 0..65 {
-        expect_cut(&rt, heap, size)?;
+        expect_cut(heap, size)?;
     }
     Ok(())
 }

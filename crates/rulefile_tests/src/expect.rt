@@ -3,7 +3,6 @@ use crate::build::bytes_of;
 use refusals::FileFault;
 use rulefile::{Space, read};
 use std::alloc::{AllocError, Global};
-use std::process::Abort;
 use std::test::Fail;
 
 // What is told of a file: `options` and their number, or `refused` with number, layer, place and item.
@@ -27,25 +26,34 @@ fn describe(heap: Global, fault: FileFault) -> Result<String, AllocError> {
 }
 
 // These bytes are told of in these words.
-pub(crate) fn expect(
-    rt: &impl Abort,
-    heap: Global,
-    case: &str,
-    bytes: &[u8],
-    words: &str,
-) -> Result<(), Fail> {
+pub(crate) fn expect(heap: Global, case: &str, bytes: &[u8], words: &str) -> Result<(), Fail> {
     let answer = told(heap, bytes)?;
-    assert_eq!(rt; answer.as_str(), words, "{}", case);
-    Ok(())
+    same_text(answer.as_str(), words, case)
 }
 
 // Each line is a case of three parts with `|` between them: what it is about, a file, and what is told of it.
-pub(crate) fn expect_all(rt: &impl Abort, heap: Global, cases: &str) -> Result<(), Fail> {
+pub(crate) fn expect_all(heap: Global, cases: &str) -> Result<(), Fail> {
     for case in cases.trim().lines() {
         let (about, rest) = case.split_once('|').ok_or("no file")?;
         let (file, words) = rest.split_once('|').ok_or("no words")?;
-        let bytes = bytes_of(rt, heap, file)?;
-        expect(rt, heap, about.trim(), bytes.as_slice(), words.trim())?;
+        let bytes = bytes_of(heap, file)?;
+        expect(heap, about.trim(), bytes.as_slice(), words.trim())?;
+    }
+    Ok(())
+}
+
+// What was found is what the case wants.
+pub(crate) fn same_text(found: &str, wanted: &str, case: &str) -> Result<(), Fail> {
+    if found != wanted {
+        return Err(Fail::new(format_args!("{case}: {found:?} is not {wanted:?}")));
+    }
+    Ok(())
+}
+
+// The same with numbers.
+pub(crate) fn same_number(found: u64, wanted: u64, case: &str) -> Result<(), Fail> {
+    if found != wanted {
+        return Err(Fail::new(format_args!("{case}: {found} is not {wanted}")));
     }
     Ok(())
 }

@@ -5,7 +5,6 @@ use std::test::Fail;
 #[test]
 fn heads(rt: HostRuntime) -> Result<(), Fail> {
     expect_all(
-        &rt,
         rt.alloc(),
         "
         too long, kind 0 | 00*32769 | refused 1 record 0 0
@@ -29,7 +28,6 @@ fn heads(rt: HostRuntime) -> Result<(), Fail> {
 #[test]
 fn one_too_many(rt: HostRuntime) -> Result<(), Fail> {
     expect_all(
-        &rt,
         rt.alloc(),
         "
         out of turn, 33rd sheet | FOUR TABLE*32 CARRY TABLE | refused 4 record 229 0
@@ -48,7 +46,6 @@ fn one_too_many(rt: HostRuntime) -> Result<(), Fail> {
 #[test]
 fn unfit_before_contents(rt: HostRuntime) -> Result<(), Fail> {
     expect_all(
-        &rt,
         rt.alloc(),
         "
         start of 16, n 0 | start:16 00*16 | refused 6 record 0 0
@@ -68,7 +65,6 @@ fn unfit_before_contents(rt: HostRuntime) -> Result<(), Fail> {
 #[test]
 fn starts(rt: HostRuntime) -> Result<(), Fail> {
     expect_all(
-        &rt,
         rt.alloc(),
         "
         n 0, so option 0 is beyond | start:17 00 01 00*7 00*8 | refused 9 start 0 0
@@ -84,7 +80,6 @@ fn starts(rt: HostRuntime) -> Result<(), Fail> {
 #[test]
 fn tables(rt: HostRuntime) -> Result<(), Fail> {
     expect_all(
-        &rt,
         rt.alloc(),
         "
         beyond, then lower | FOUR table:3 02 46 00 | refused 7 sheet 21 0
@@ -102,7 +97,6 @@ fn tables(rt: HostRuntime) -> Result<(), Fail> {
 #[test]
 fn clauses(rt: HostRuntime) -> Result<(), Fail> {
     expect_all(
-        &rt,
         rt.alloc(),
         "
         bit 6 and beyond | FOUR clauses:2 01 44 | refused 9 sheet 21 0
@@ -120,7 +114,6 @@ fn clauses(rt: HostRuntime) -> Result<(), Fail> {
 #[test]
 fn entries_of_a_folder(rt: HostRuntime) -> Result<(), Fail> {
     expect_all(
-        &rt,
         rt.alloc(),
         "
         op, unused and rule | FOUR TABLE folder:12 07 09 09 09 09 00*7 question:1 09 | refused 9 folder 27 0
@@ -145,7 +138,6 @@ fn entries_of_a_folder(rt: HostRuntime) -> Result<(), Fail> {
 #[test]
 fn earlier_entries(rt: HostRuntime) -> Result<(), Fail> {
     expect_all(
-        &rt,
         rt.alloc(),
         "
         hidden before the question | MANY TABLE folder:12 04 00 00 00 FF FF 01 00*5 question:1 09 | refused 12 folder 27 0
@@ -160,7 +152,6 @@ fn earlier_entries(rt: HostRuntime) -> Result<(), Fail> {
 #[test]
 fn earlier_records(rt: HostRuntime) -> Result<(), Fail> {
     expect_all(
-        &rt,
         rt.alloc(),
         "
         start, then a cut | start:17 04 01 00*7 01 00*7 00 | refused 8 start 0 0

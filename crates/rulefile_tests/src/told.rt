@@ -5,7 +5,6 @@ use std::test::Fail;
 #[test]
 fn cut_or_unknown_records(rt: HostRuntime) -> Result<(), Fail> {
     expect_all(
-        &rt,
         rt.alloc(),
         "
         only half a head | 11 00 | refused 2 record 0 0
@@ -27,7 +26,6 @@ fn cut_or_unknown_records(rt: HostRuntime) -> Result<(), Fail> {
 #[test]
 fn records_out_of_turn(rt: HostRuntime) -> Result<(), Fail> {
     expect_all(
-        &rt,
         rt.alloc(),
         "
         a table first | TABLE ASK | refused 4 record 0 0
@@ -51,7 +49,6 @@ fn records_out_of_turn(rt: HostRuntime) -> Result<(), Fail> {
 #[test]
 fn unfinished_files(rt: HostRuntime) -> Result<(), Fail> {
     expect_all(
-        &rt,
         rt.alloc(),
         "
         no record |  | refused 11 record 0 0
@@ -67,7 +64,6 @@ fn unfinished_files(rt: HostRuntime) -> Result<(), Fail> {
 #[test]
 fn unfit_bodies(rt: HostRuntime) -> Result<(), Fail> {
     expect_all(
-        &rt,
         rt.alloc(),
         "
         a start of 0 bytes | start:0 | refused 6 record 0 0
@@ -92,7 +88,6 @@ fn unfit_bodies(rt: HostRuntime) -> Result<(), Fail> {
 #[test]
 fn start_faults(rt: HostRuntime) -> Result<(), Fail> {
     expect_all(
-        &rt,
         rt.alloc(),
         "
         no options | start:17 00 00*16 TABLE ASK | refused 9 start 0 0
@@ -113,7 +108,6 @@ fn start_faults(rt: HostRuntime) -> Result<(), Fail> {
 #[test]
 fn table_faults(rt: HostRuntime) -> Result<(), Fail> {
     expect_all(
-        &rt,
         rt.alloc(),
         "
         column 4 of 4 | FOUR table:2 01 04 | refused 7 sheet 21 0
@@ -133,7 +127,6 @@ fn table_faults(rt: HostRuntime) -> Result<(), Fail> {
 #[test]
 fn clause_faults(rt: HostRuntime) -> Result<(), Fail> {
     expect_all(
-        &rt,
         rt.alloc(),
         "
         option 4 of 4 wanted yes | FOUR clauses:2 01 04 | refused 7 sheet 21 0
@@ -154,7 +147,6 @@ fn clause_faults(rt: HostRuntime) -> Result<(), Fail> {
 #[test]
 fn ops_and_unused_fields(rt: HostRuntime) -> Result<(), Fail> {
     expect_all(
-        &rt,
         rt.alloc(),
         "
         op 7 | FOUR TABLE CLAUSES folder:12 07 00 00 00 00*8 ASK | refused 9 folder 31 0
@@ -182,7 +174,6 @@ fn ops_and_unused_fields(rt: HostRuntime) -> Result<(), Fail> {
 #[test]
 fn rules_of_entries(rt: HostRuntime) -> Result<(), Fail> {
     expect_all(
-        &rt,
         rt.alloc(),
         "
         a carry of rule 2 of 2 | FOUR TABLE CLAUSES folder:12 00 02 00 00 00*8 ASK | refused 10 folder 31 0
@@ -206,7 +197,6 @@ fn rules_of_entries(rt: HostRuntime) -> Result<(), Fail> {
 #[test]
 fn ranges_and_hidden_options(rt: HostRuntime) -> Result<(), Fail> {
     expect_all(
-        &rt,
         rt.alloc(),
         "
         width 0 | FOUR TABLE CLAUSES folder:12 03 00 00 01 00*8 ASK | refused 9 folder 31 0
@@ -226,7 +216,6 @@ fn ranges_and_hidden_options(rt: HostRuntime) -> Result<(), Fail> {
 #[test]
 fn later_entries_and_folders(rt: HostRuntime) -> Result<(), Fail> {
     expect_all(
-        &rt,
         rt.alloc(),
         "
         entry 1 | FOUR TABLE folder:24 00 00 00 00 00*8 07 00 00 00 00*8 ASK | refused 9 folder 27 1
@@ -241,7 +230,6 @@ fn later_entries_and_folders(rt: HostRuntime) -> Result<(), Fail> {
 #[test]
 fn questions(rt: HostRuntime) -> Result<(), Fail> {
     expect_all(
-        &rt,
         rt.alloc(),
         "
         no rule at all | FOUR ASK | refused 10 question 21 0

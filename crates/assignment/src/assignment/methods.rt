@@ -31,6 +31,7 @@ impl Assignment {
     }
 
     /// Whether some option is known both yes and no.
+    #[tactic(auto, unfolding(crate::specs::Lattice::inconsistent))]
     pub fn is_inconsistent(&self) -> bool
         ensures masks { result ≡ not (bit_and self.now.yes self.now.no == 0) }
         ensures answer { result ≡ inconsistent self.now }
