@@ -1,7 +1,7 @@
 #!/usr/bin/env python3
 """Brings the names of this repository's definitions and lemmas to one spelling: snake case, and camel case for
-types and facts. Run once, at the top, right after /opt/rattle/port/port.py. Functions of src/, exported names,
-strings and goals' names stay."""
+types and facts. Run once, at the top, right after the kit's port.py. Functions of src/, exported names, strings and
+goals' names stay."""
 import glob
 import re
 import sys

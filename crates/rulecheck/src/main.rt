@@ -25,8 +25,8 @@ fn run(rt: &HostRuntime) -> io::Result<()> {
     let heap = rt.alloc();
     let mut buffer = vec![in heap; 0u8; load::LIMIT]?;
     let space = Space::reserve(heap)?;
-    let length = load::load(rt, "RULES", &mut buffer);
     let mut out = BufWriter::new(heap, rt.stdout())?;
+    let length = load::load(rt, "RULES", &mut buffer);
     match read(space, &buffer[0..length]) {
         Ok(file) => report::report(&mut out, &file)?,
         Err(fault) => refuse(&mut out, fault)?,
