@@ -1,6 +1,6 @@
 -- The laws of assignments. What is built on assignments cites these, and looks no further down than options.
 use Rattle.std.specs.Prelude.{◌≡◌, ℕ, ◌+◌, ◌-◌, ◌%◌, ◌^◌, ◌<◌, ◌≤◌, Bool, true, false, cond, not, ◌&&◌, ◌||◌, ltb, ◌⊎◌, ◌==◌, ◌≢◌, bit_and, bit_or, nat_le, nat_lt, refl}
-use Rattle.std.specs.Cmp.{IsPartialEquivalence}
+use Rattle.std.specs.Cmp.{IsPartialEquivalence, both_ways as same_answer}
 use Rattle.std.proofs.Math.Bridge.{le_prop}
 use Rattle.std.proofs.Common.{add_comm, lt_of_le_of_lt, arith, inl, inr, sym, ap, ap₂, subst, ◌∙◌}
 use Rattle.std.specs.Bool.{beq}
@@ -145,12 +145,7 @@ refines_trans {c} {b} {a} r s = refines_by c a (λ o h v k. knows_up r o v (know
 
 pub refines_antisym : {b a : Assignment} → Refines b a → Refines a b → b ≡ a
 refines_antisym {b} {a} r s =
-    by_options b a (λ o h v. both (knows b o v) (knows a o v) (knows_up s o v) (knows_up r o v))
-  where
-    both : (p q : Bool) → (p ≡ true → q ≡ true) → (q ≡ true → p ≡ true) → p ≡ q
-    both true q f g = sym (f refl)
-    both false true f g = g refl
-    both false false f g = refl
+    by_options b a (λ o h v. same_answer (knows b o v) (knows a o v) (knows_up s o v) (knows_up r o v))
 
 pub refines_equal : {b a : Assignment} → b ≡ a → Refines b a
 refines_equal {b} {a} e = subst (λ c. Refines c a) (sym e) (refines_refl a)
@@ -401,14 +396,9 @@ true_same a b e =
 pub same_laws : IsPartialEquivalence same
 same_laws =
     record {
-      symm = λ a b. both_alike (same a b) (same b a) (λ e. true_same b a (sym (same_true a b e))) (λ e. true_same a b (sym (same_true b a e)));
+      symm = λ a b. same_answer (same a b) (same b a) (λ e. true_same b a (sym (same_true a b e))) (λ e. true_same a b (sym (same_true b a e)));
       trans = λ a b c d e. true_same a c (same_true a b d ∙ same_true b c e);
     }
-  where
-    both_alike : (p q : Bool) → (p ≡ true → q ≡ true) → (q ≡ true → p ≡ true) → p ≡ q
-    both_alike true q f g = sym (f refl)
-    both_alike false true f g = g refl
-    both_alike false false f g = refl
 
 -- hidden options
 

@@ -1,7 +1,8 @@
 -- A filling that the rule allows is a build that the search tree finds.
-use Rattle.std.proofs.Common.{◌≡◌, ℕ, ◌<◌, Bool, true, false, ◌||◌, ◌⊎◌, List, [], ◌∷◌, ◌++◌, sym, refl, subst, inl, inr}
+use Rattle.std.proofs.Common.{◌≡◌, ℕ, ◌<◌, Bool, true, false, ◌||◌, ◌⊎◌, List, [], ◌∷◌, ◌++◌, refl, subst, inl, inr}
 use mathlib.Core.List.Memᴰ
 use mathlib.Core.List.{Memᴰ}
+use Rattle.std.specs.Cmp.{both_ways as same_answer}
 use Rattle.std.proofs.lemmas.Bool.{and_from, and_parts, both_ways, or_cases, or_left, or_right}
 use Rattle.assignment.specs.Lattice.{put, same, total, Total}
 use Rattle.assignment.specs.Laws.{put_above, put_has, refines_refl, same_true, true_same}
@@ -70,7 +71,7 @@ some_finds (choice o y n) b m = go (Memᴰ.append_cases (leaves y) m) (some_find
     go (inr h) left right = or_right (finds y) (finds n) (right h)
 
 pub search_fills : SearchFills
-search_fills f l os below c cov = both (finds (tree f os (closure f c))) (fills f os c) there back
+search_fills f l os below c cov = same_answer (finds (tree f os (closure f c))) (fills f os c) there back
   where
     at : Lists os (Fits f c) (leaves (tree f os (closure f c)))
     at = tree_lists f l os below c (covers_up os (closure_least f l c).above cov)
@@ -84,8 +85,3 @@ search_fills f l os below c cov = both (finds (tree f os (closure f c))) (fills 
     back e =
         let some_build = fills_sound f os c e in
         some_finds (tree f os (closure f c)) some_build.0 (at.complete some_build.0 some_build.1)
-
-    both : (p q : Bool) → (p ≡ true → q ≡ true) → (q ≡ true → p ≡ true) → p ≡ q
-    both true q f g = sym (f refl)
-    both false true f g = g refl
-    both false false f g = refl

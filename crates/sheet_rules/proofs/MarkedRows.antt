@@ -1,6 +1,7 @@
 -- A row agrees exactly if it fits the masks of what is known.
 use Rattle.std.proofs.Common.{◌≡◌, ℕ, ◌+◌, ◌*◌, ◌/◌, ◌%◌, ◌<◌, ◌≤◌, min, Bool, true, false, not, eqb, ◌⊎◌, List, [], ◌∷◌, sym, refl, ap, ◌∙◌, ap₂, inl, inr, mod-eq_of_lt, arith}
 use lib.Bits.{bit_and, and_le_l, and_mod, and_step, and_zero_r}
+use Rattle.std.specs.Cmp.{both_ways as same_answer}
 use Rattle.std.proofs.lemmas.Bool.{and_from, and_parts, cases_lt, eq-eqb, eqb-true, not_from_false, not-true}
 use Rattle.assignment.specs.Knows.{knows}
 use Rattle.assignment.specs.Size.{bit}
@@ -143,10 +144,5 @@ module _ (row : ℕ) (small : row < 65536) where
 
   pub fits_agrees : (cs : List ℕ) (a : Assignment) → fits (known_of cs a) row ≡ agrees cs row a
   fits_agrees cs a =
-      both (fits (known_of cs a) row) (agrees cs row a) (λ e. within_agrees cs row a (fits_within cs a e))
+      same_answer (fits (known_of cs a) row) (agrees cs row a) (λ e. within_agrees cs row a (fits_within cs a e))
       (λ e. within_fits cs a (agrees_within cs row a e))
-    where
-      both : (p q : Bool) → (p ≡ true → q ≡ true) → (q ≡ true → p ≡ true) → p ≡ q
-      both true q f g = sym (f refl)
-      both false true f g = g refl
-      both false false f g = refl
