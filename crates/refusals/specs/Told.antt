@@ -1,8 +1,9 @@
 -- What a file's fault tells the user: the refusal, the layer, the place and the item.
-use Rattle.std.specs.Prelude.{ℕ}
+use Rattle.std.specs.Prelude.{ℕ, List, ◌++◌, codes, decimal}
 use Rattle.refusals.specs.declared.refusal.Refusal.{Refusal}
 use Rattle.refusals.specs.declared.layer.Layer.{Layer}
 use Rattle.refusals.specs.declared.layer.Layer.TheVariants as layer
+use Rattle.refusals.specs.Numbers.{number_of, name_of}
 use Rattle.refusals.specs.declared.fault.SheetFault.TheVariants as sheet
 use Rattle.refusals.specs.declared.fault.FolderFault.TheVariants as folder
 use Rattle.refusals.specs.declared.fault.FileFault.{FileFault}
@@ -44,3 +45,15 @@ item_of (file.Sheet (sheet.Item r p i)) = i
 item_of (file.Folder (folder.Record f)) = 0
 item_of (file.Folder (folder.Entry r p i)) = i
 item_of (file.Question r p) = 0
+
+-- the line in which a refusal is told, without the line's end
+abbrev pub line_of : FileFault → List ℕ
+line_of f =
+    codes "refused "
+    ++ decimal (number_of (refusal_of f))
+    ++ codes " "
+    ++ name_of (layer_of f)
+    ++ codes " "
+    ++ decimal (place_of f)
+    ++ codes " "
+    ++ decimal (item_of f)

@@ -1,22 +1,24 @@
 // The faults of a rule file: a record's fault within a sheet's or a folder's, and these within the file's.
-ghost use Rattle.std.specs.Prelude.{◌≡◌};
+ghost use Rattle.std.specs.Prelude.{◌≡◌, Some};
 ghost use Rattle.refusals.specs.declared.fault.FileFault.TheVariants.{Record as file_record, Sheet as file_sheet, Folder as file_folder};
 ghost use Rattle.refusals.specs.declared.fault.FolderFault.TheVariants.{Record as folder_record};
 ghost use Rattle.refusals.specs.declared.fault.SheetFault.TheVariants.{Record as sheet_record};
-ghost use Rattle.refusals.specs.Told.{refusal_of, layer_of, place_of, item_of};
+ghost use Rattle.refusals.specs.Told.{refusal_of, layer_of, place_of, item_of, line_of};
 
 use crate::layer::Layer;
 use crate::refusal::Refusal;
+use std::error::Error;
+use std::fmt;
 
 /// A fault of the file as a list of records. `place` is the byte at which the record begins or should begin.
-#[derive(Clone, Copy)]
+#[derive(Clone, Copy, Debug, PartialEq, Eq)]
 pub struct RecordFault {
     pub refusal: Refusal,
     pub place: usize,
 }
 
 /// A fault of a sheet: of its record, or of the column, row or clause that `item` counts from 0.
-#[derive(Clone, Copy)]
+#[derive(Clone, Copy, Debug, PartialEq, Eq)]
 pub enum SheetFault {
     Record(RecordFault),
     Item {
@@ -27,7 +29,7 @@ pub enum SheetFault {
 }
 
 /// A fault of a folder: of its record, or of the entry that `item` counts from 0.
-#[derive(Clone, Copy)]
+#[derive(Clone, Copy, Debug, PartialEq, Eq)]
 pub enum FolderFault {
     Record(RecordFault),
     Entry {
@@ -38,7 +40,7 @@ pub enum FolderFault {
 }
 
 /// A fault of a rule file, with the fault of the layer below whole.
-#[derive(Clone, Copy)]
+#[derive(Clone, Copy, Debug, PartialEq, Eq)]
 pub enum FileFault {
     Record(RecordFault),
     Start { refusal: Refusal, place: usize },
@@ -93,13 +95,13 @@ impl FileFault {
         ensures { result ≡ refusal_of self }
     {
         match self {
-            FileFault::Record(fault) => fault.refusal,
-            FileFault::Start { refusal, .. } => refusal,
-            FileFault::Sheet(SheetFault::Record(fault)) => fault.refusal,
-            FileFault::Sheet(SheetFault::Item { refusal, .. }) => refusal,
-            FileFault::Folder(FolderFault::Record(fault)) => fault.refusal,
-            FileFault::Folder(FolderFault::Entry { refusal, .. }) => refusal,
-            FileFault::Question { refusal, .. } => refusal,
+            FileFault::Record(fault)
+            | FileFault::Sheet(SheetFault::Record(fault))
+            | FileFault::Folder(FolderFault::Record(fault)) => fault.refusal,
+            FileFault::Start { refusal, .. }
+            | FileFault::Sheet(SheetFault::Item { refusal, .. })
+            | FileFault::Folder(FolderFault::Entry { refusal, .. })
+            | FileFault::Question { refusal, .. } => refusal,
         }
     }
 
@@ -108,11 +110,11 @@ impl FileFault {
         ensures { result ≡ layer_of self }
     {
         match self {
-            FileFault::Record(_) => Layer::Record,
+            FileFault::Record(_)
+            | FileFault::Sheet(SheetFault::Record(_))
+            | FileFault::Folder(FolderFault::Record(_)) => Layer::Record,
             FileFault::Start { .. } => Layer::Start,
-            FileFault::Sheet(SheetFault::Record(_)) => Layer::Record,
             FileFault::Sheet(SheetFault::Item { .. }) => Layer::Sheet,
-            FileFault::Folder(FolderFault::Record(_)) => Layer::Record,
             FileFault::Folder(FolderFault::Entry { .. }) => Layer::Folder,
             FileFault::Question { .. } => Layer::Question,
         }
@@ -123,13 +125,13 @@ impl FileFault {
         ensures { result ≡ place_of self }
     {
         match self {
-            FileFault::Record(fault) => fault.place,
-            FileFault::Start { place, .. } => place,
-            FileFault::Sheet(SheetFault::Record(fault)) => fault.place,
-            FileFault::Sheet(SheetFault::Item { place, .. }) => place,
-            FileFault::Folder(FolderFault::Record(fault)) => fault.place,
-            FileFault::Folder(FolderFault::Entry { place, .. }) => place,
-            FileFault::Question { place, .. } => place,
+            FileFault::Record(fault)
+            | FileFault::Sheet(SheetFault::Record(fault))
+            | FileFault::Folder(FolderFault::Record(fault)) => fault.place,
+            FileFault::Start { place, .. }
+            | FileFault::Sheet(SheetFault::Item { place, .. })
+            | FileFault::Folder(FolderFault::Entry { place, .. })
+            | FileFault::Question { place, .. } => place,
         }
     }
 
@@ -138,9 +140,24 @@ impl FileFault {
         ensures { result ≡ item_of self }
     {
         match self {
-            FileFault::Sheet(SheetFault::Item { item, .. }) => item,
-            FileFault::Folder(FolderFault::Entry { item, .. }) => item,
+            FileFault::Sheet(SheetFault::Item { item, .. })
+            | FileFault::Folder(FolderFault::Entry { item, .. }) => item,
             _ => 0,
         }
     }
 }
+
+/// Writes the line that the user sees, without the line's end.
+impl fmt::Display for FileFault {
+    ghost output = { λ fault. Some (line_of fault) };
+
+    fn fmt<W: fmt::Write>(&self, f: &mut fmt::Formatter<W>) -> fmt::Result {
+        let number = self.refusal().number();
+        let layer = self.layer();
+        let place = self.place();
+        let item = self.item();
+        write!(f, "refused {number} {layer} {place} {item}")
+    }
+}
+
+impl Error for FileFault {}

@@ -1,8 +1,10 @@
 // The part of a rule file in which a fault was found.
-ghost use Rattle.std.specs.Prelude.{◌≡◌};
+ghost use Rattle.std.specs.Prelude.{◌≡◌, Some};
 ghost use Rattle.refusals.specs.Numbers.{name_of};
 
-#[derive(Clone, Copy)]
+use std::fmt;
+
+#[derive(Clone, Copy, Debug, PartialEq, Eq)]
 pub enum Layer {
     /// The file as a list of records.
     Record,
@@ -28,5 +30,14 @@ impl Layer {
             Layer::Folder => "folder",
             Layer::Question => "question",
         }
+    }
+}
+
+/// Writes the layer's name.
+impl fmt::Display for Layer {
+    ghost output = { λ layer. Some (name_of layer) };
+
+    fn fmt<W: fmt::Write>(&self, f: &mut fmt::Formatter<W>) -> fmt::Result {
+        f.write_str(self.name())
     }
 }

@@ -2,33 +2,33 @@
 ghost use Rattle.std.specs.Prelude.{◌≡◌};
 ghost use Rattle.refusals.specs.Numbers.{number_of};
 
-/// Each reason has a number that the user sees; `number` gives it.
-#[derive(Clone, Copy)]
+/// Each reason has a number that the user sees.
+#[derive(Clone, Copy, Debug, PartialEq, Eq)]
 pub enum Refusal {
     /// The file is longer than a rule file may be.
-    TooLong,
+    TooLong = 1,
     /// Bytes are missing from a record's head or body.
-    Cut,
+    Cut = 2,
     /// The record is of no known kind.
-    UnknownKind,
+    UnknownKind = 3,
     /// The record is not in its turn.
-    OutOfTurn,
+    OutOfTurn = 4,
     /// One sheet, folder or entry more than may be kept.
-    TooMany,
+    TooMany = 5,
     /// The body does not fit its kind, or one of its counts is out of range.
-    Unfit,
+    Unfit = 6,
     /// An option at or above the number of options.
-    BeyondOptions,
+    BeyondOptions = 7,
     /// Two values or places that exclude each other.
-    Conflict,
+    Conflict = 8,
     /// A value outside its range, or a field or bit set that is not used.
-    OutOfRange,
+    OutOfRange = 9,
     /// A rule that does not exist.
-    NoSuchRule,
+    NoSuchRule = 10,
     /// The file ends before its last record.
-    Unfinished,
+    Unfinished = 11,
     /// More options are hidden than may be.
-    TooManyHidden,
+    TooManyHidden = 12,
 }
 
 impl Refusal {
@@ -36,19 +36,6 @@ impl Refusal {
     pub fn number(self) -> u8
         ensures { result ≡ number_of self }
     {
-        match self {
-            Refusal::TooLong => 1,
-            Refusal::Cut => 2,
-            Refusal::UnknownKind => 3,
-            Refusal::OutOfTurn => 4,
-            Refusal::TooMany => 5,
-            Refusal::Unfit => 6,
-            Refusal::BeyondOptions => 7,
-            Refusal::Conflict => 8,
-            Refusal::OutOfRange => 9,
-            Refusal::NoSuchRule => 10,
-            Refusal::Unfinished => 11,
-            Refusal::TooManyHidden => 12,
-        }
+        self as u8
     }
 }
