@@ -63,7 +63,7 @@ unfolding unknown knows
 unknown_knows o true = has_zero o
 unknown_knows o false = has_zero o
 
-has_one_below : (i o : ℕ) → o < 64 → has (one i) o ≡ (i == o)
+pub has_one_below : (i o : ℕ) → o < 64 → has (one i) o ≡ (i == o)
 has_one_below i o h = go (cases_lt i 64)
   where
     go : (i < 64) ⊎ (64 ≤ i) → has (one i) o ≡ (i == o)
@@ -89,7 +89,7 @@ unfolding within knows
 within_knows hidden a o true = has_and a.yes hidden o
 within_knows hidden a o false = has_and a.no hidden o
 
-shared_has : (left right width m o : ℕ) → o < 64 → has (shared left right width m) o ≡ (has m o || ((nat_le left o && (nat_lt (o - left) width && has m (o - left + right))) || (nat_le right o && (nat_lt (o - right) width && has m (o - right + left)))))
+pub shared_has : (left right width m o : ℕ) → o < 64 → has (shared left right width m) o ≡ (has m o || ((nat_le left o && (nat_lt (o - left) width && has m (o - left + right))) || (nat_le right o && (nat_lt (o - right) width && has m (o - right + left)))))
 shared_has left right width m o h =
     has_or m (bit_or (moved right left width m) (moved left right width m)) o
     ∙ ap (λ b. has m o || b)
@@ -100,19 +100,21 @@ unfolding equate knows
 equate_knows left right width a o true h = shared_has left right width a.yes o h
 equate_knows left right width a o false h = shared_has left right width a.no o h
 
+pub bits_from_has : (first o : ℕ) → o < 64 → has (bits_from first) o ≡ nat_le first o
+bits_from_has first o h =
+    has_rest all (all % 2 ^ first) o ∙ ap₂ (λ p q. p && not q) (has_all 64 o h) (has_low all first o)
+    ∙ ap (λ p. not (nat_lt o first && p)) (has_all 64 o h) ∙ ap not (and-true (nat_lt o first)) ∙ not_below o first (cases_lt o first)
+  where
+    not_below : (i n : ℕ) → (i < n) ⊎ (n ≤ i) → not (nat_lt i n) ≡ nat_le n i
+    not_below i n (inl l) = ap not (lt-ltb i n l) ∙ sym (lt-leb n i l)
+    not_below i n (inr l) = ap not (le-ltb i n l) ∙ sym (le-leb n i l)
+
 pub no_from_knows : (first : ℕ) (a : Assignment) (o : ℕ) (v : Bool) → o < 64 → knows (no_from first a) o v ≡ (knows a o v || (nat_le first o && not v))
 unfolding no_from knows
 no_from_knows first a o true h = sym (or-false (has a.yes o)) ∙ ap (λ b. has a.yes o || b) (sym (and-false (nat_le first o)))
 no_from_knows first a o false h =
     has_or a.no (bits_from first) o
-    ∙ ap (λ b. has a.no o || b)
-    (has_rest all (all % 2 ^ first) o ∙ ap₂ (λ p q. p && not q) (has_all 64 o h) (has_low all first o)
-    ∙ ap (λ p. not (nat_lt o first && p)) (has_all 64 o h) ∙ ap not (and-true (nat_lt o first)) ∙ not_below o first (cases_lt o first)
-    ∙ sym (and-true (nat_le first o)))
-  where
-    not_below : (i n : ℕ) → (i < n) ⊎ (n ≤ i) → not (nat_lt i n) ≡ nat_le n i
-    not_below i n (inl l) = ap not (lt-ltb i n l) ∙ sym (lt-leb n i l)
-    not_below i n (inr l) = ap not (le-ltb i n l) ∙ sym (le-leb n i l)
+    ∙ ap (λ b. has a.no o || b) (bits_from_has first o h ∙ sym (and-true (nat_le first o)))
 
 -- the precision order
 

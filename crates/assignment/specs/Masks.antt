@@ -1,10 +1,11 @@
 -- Bits of masks: what the operations on masks do bit by bit, and that a mask is its bits.
 use Rattle.std.specs.Prelude.{◌≡◌, ℕ, zero, suc, ◌+◌, ◌-◌, ◌*◌, ◌/◌, ◌%◌, ◌^◌, ◌<◌, ◌≤◌, min, max, Bool, true, false, not, ◌&&◌, ◌||◌, ◌⊎◌, ◌==◌, bit_and, bit_or, bit_xor, nat_eq, nat_le, nat_lt, refl}
-use Rattle.std.proofs.Common.{add_comm, div-one, lt_of_lt_of_le, mod-lt, mul_assoc, pow-suc, zero-mul, arith, inl, inr, sym, ap, ◌∙◌, pow-add, pow_mono, pow_pos, shr-shr}
-use Rattle.std.proofs.Math.Nat.{div-eq_of_lt, div_self, mul-mod_left, zero-div, zero-mod}
-use Rattle.std.proofs.lemmas.Nat.{and_shr, or_shr, xor_shr, shl-shr}
-use Rattle.std.specs.Int.Bits.{and_step, or_step, xor_step, differ}
-use Rattle.std.proofs.Math.Pow.{field, high, mod-mod-pow, ones_lt, ones_split, pow-lt}
+use Rattle.std.proofs.Common.{add_comm, lt_of_lt_of_le, mod-lt, mul_assoc, zero-mul, arith, inl, inr, sym, ap, ◌∙◌, pow-add, pow_mono, pow_pos, shr-shr}
+use Rattle.std.proofs.Math.Nat.{div-eq_of_lt, mul-mod_left, zero-mod}
+use Rattle.std.proofs.lemmas.Nat.{shr_split}
+use Rattle.std.proofs.lemmas.Nat.Bits.{bit_at_above, bit_at_and, bit_at_cat_high, bit_at_cat_low, bit_at_ones, bit_at_or, bit_at-pow_other, bit_at-pow_same, bit_at_xor, bit_at-zero, same_from_bits_below}
+use Rattle.std.specs.Int.{bit_at}
+use Rattle.std.specs.Bool.{beq}
 use Rattle.std.proofs.lemmas.Bool.{cases_lt, cases_order, eq-eqb, eqb-true, le-leb, le-ltb, lt-leb, lt-ltb, ne_eqb}
 use Rattle.assignment.specs.Knows.{has}
 
@@ -27,73 +28,47 @@ by_bits f g ff ft tf tt x y i = go (low_cases (x / 2 ^ i)) (low_cases (y / 2 ^ i
     go (inr a) (inr b) = rw (a, b) tt
 
 pub has_or : (x y i : ℕ) → has (bit_or x y) i ≡ (has x i || has y i)
-has_or x y i =
-    let step : bit_or x y / 2 ^ i % 2 ≡ max (x / 2 ^ i % 2) (y / 2 ^ i % 2) =
-    ap (λ n. n % 2) (or_shr x y i) ∙ ap (λ n. n % 2) (or_step (x / 2 ^ i) (y / 2 ^ i)) ∙ omega arith in
-    ap (λ n. nat_eq n 1) step ∙ by_bits max ◌||◌ refl refl refl refl x y i
+has_or x y i = ap (λ n. nat_eq n 1) (bit_at_or x y i) ∙ by_bits max ◌||◌ refl refl refl refl x y i
 
 pub has_and : (x y i : ℕ) → has (bit_and x y) i ≡ (has x i && has y i)
-has_and x y i =
-    let step : bit_and x y / 2 ^ i % 2 ≡ min (x / 2 ^ i % 2) (y / 2 ^ i % 2) =
-    ap (λ n. n % 2) (and_shr x y i) ∙ ap (λ n. n % 2) (and_step (x / 2 ^ i) (y / 2 ^ i)) ∙ omega arith in
-    ap (λ n. nat_eq n 1) step ∙ by_bits min ◌&&◌ refl refl refl refl x y i
+has_and x y i = ap (λ n. nat_eq n 1) (bit_at_and x y i) ∙ by_bits min ◌&&◌ refl refl refl refl x y i
+
+pub has_xor : (x y i : ℕ) → has (bit_xor x y) i ≡ not (beq (has x i) (has y i))
+has_xor x y i =
+    ap (λ n. nat_eq n 1) (bit_at_xor x y i)
+    ∙ by_bits (λ p q. (p + q) % 2) (λ p q. not (beq p q)) refl refl refl refl x y i
 
 -- the bits of x that h does not have
 pub has_rest : (x h i : ℕ) → has (bit_xor x (bit_and x h)) i ≡ (has x i && not (has h i))
 has_rest x h i =
-    let step : bit_xor x (bit_and x h) / 2 ^ i % 2 ≡ differ (x / 2 ^ i % 2) (min (x / 2 ^ i % 2) (h / 2 ^ i % 2)) =
-    ap (λ n. n % 2) (xor_shr x (bit_and x h) i ∙ ap (bit_xor (x / 2 ^ i)) (and_shr x h i))
-    ∙ xor_low (x / 2 ^ i) (bit_and (x / 2 ^ i) (h / 2 ^ i))
-    ∙ ap (differ (x / 2 ^ i % 2)) (and_low (x / 2 ^ i) (h / 2 ^ i)) in
-    ap (λ n. nat_eq n 1) step ∙ by_bits (λ p q. differ p (min p q)) (λ p q. p && not q) refl refl refl refl x h i
-  where
-    and_low : (a b : ℕ) → bit_and a b % 2 ≡ min (a % 2) (b % 2)
-    and_low a b = ap (λ n. n % 2) (and_step a b) ∙ omega arith
-
-    small : {p q : ℕ} → (p ≡ 0) ⊎ (p ≡ 1) → (q ≡ 0) ⊎ (q ≡ 1) → differ p q < 2
-    small (inl a) (inl b) = rw (a, b) (omega arith)
-    small (inl a) (inr b) = rw (a, b) (omega arith)
-    small (inr a) (inl b) = rw (a, b) (omega arith)
-    small (inr a) (inr b) = rw (a, b) (omega arith)
-
-    xor_low : (a b : ℕ) → bit_xor a b % 2 ≡ differ (a % 2) (b % 2)
-    xor_low a b =
-        let below : differ (a % 2) (b % 2) < 2 = small (low_cases a) (low_cases b) in
-        ap (λ n. n % 2) (xor_step a b) ∙ omega arith
+    ap (λ n. nat_eq n 1) (bit_at_xor x (bit_and x h) i ∙ ap (λ n. (bit_at x i + n) % 2) (bit_at_and x h i))
+    ∙ by_bits (λ p q. (p + min p q) % 2) (λ p q. p && not q) refl refl refl refl x h i
 
 -- a multiple of a power of two has its first bit there
-has_raised : (x k i : ℕ) → has (x * 2 ^ k) i ≡ (nat_le k i && has x (i - k))
+pub has_raised : (x k i : ℕ) → has (x * 2 ^ k) i ≡ (nat_le k i && has x (i - k))
 has_raised x k i = go (cases_lt i k)
   where
-    even : (d : ℕ) → i + suc d ≡ k → x * 2 ^ k / 2 ^ i % 2 ≡ 0
-    even d e =
-        let whole : x * 2 ^ k ≡ x * 2 ^ d * 2 * 2 ^ i =
-        ap (λ n. x * 2 ^ n) (sym e ∙ add_comm i (suc d))
-        ∙ ap (λ n. x * n) (pow-add 2 (suc d) i ∙ ap (λ n. n * 2 ^ i) (pow-suc 2 d))
-        ∙ sym (mul_assoc x (2 ^ d * 2) (2 ^ i)) ∙ ap (λ n. n * 2 ^ i) (sym (mul_assoc x (2 ^ d) 2)) in
-        ap (λ n. n / 2 ^ i % 2) whole ∙ ap (λ n. n % 2) (shl-shr (x * 2 ^ d * 2) i) ∙ mul-mod_left (x * 2 ^ d) 2
+    alone : bit_at (x * 2 ^ k) i ≡ bit_at (x * 2 ^ k + 0) i
+    alone = ap (λ n. bit_at n i) (omega arith)
 
     go : (i < k) ⊎ (k ≤ i) → has (x * 2 ^ k) i ≡ (nat_le k i && has x (i - k))
-    go (inl h) = ap (λ n. nat_eq n 1) (even (k - suc i) (omega arith)) ∙ sym (ap (λ b. b && has x (i - k)) (lt-leb k i h))
+    go (inl h) =
+        ap (λ n. nat_eq n 1) (alone ∙ bit_at_cat_low x k 0 i h ∙ bit_at-zero i)
+        ∙ sym (ap (λ b. b && has x (i - k)) (lt-leb k i h))
     go (inr h) =
-        let down : x * 2 ^ k / 2 ^ i ≡ x / 2 ^ (i - k) =
-        ap (λ n. x * 2 ^ k / 2 ^ n) (omega arith) ∙ sym (shr-shr (x * 2 ^ k) k (i - k))
-        ∙ ap (λ n. n / 2 ^ (i - k)) (shl-shr x k) in
-        ap (λ n. nat_eq (n % 2) 1) down ∙ sym (ap (λ b. b && has x (i - k)) (le-leb k i h))
+        ap (λ n. nat_eq n 1) (alone ∙ bit_at_cat_high x k 0 i (pow_pos k) h)
+        ∙ sym (ap (λ b. b && has x (i - k)) (le-leb k i h))
 
 -- a remainder by a power of two has the bits below it
 pub has_low : (x k i : ℕ) → has (x % 2 ^ k) i ≡ (nat_lt i k && has x i)
 has_low x k i = go (cases_lt i k)
   where
-    same_bit : (d : ℕ) → suc d + i ≡ k → x % 2 ^ k / 2 ^ i % 2 ≡ x / 2 ^ i % 2
-    same_bit d e =
-        ap (λ n. x % 2 ^ n / 2 ^ i % 2) (sym e) ∙ ap (λ n. n % 2) (field x (suc d) i)
-        ∙ ap (λ n. x / 2 ^ i % 2 ^ n % 2) (omega arith) ∙ mod-mod-pow (x / 2 ^ i) d 1
-
     go : (i < k) ⊎ (k ≤ i) → has (x % 2 ^ k) i ≡ (nat_lt i k && has x i)
-    go (inl h) = ap (λ n. nat_eq n 1) (same_bit (k - suc i) (omega arith)) ∙ sym (ap (λ b. b && has x i) (lt-ltb i k h))
+    go (inl h) =
+        ap (λ n. nat_eq n 1) (sym (bit_at_cat_low (x / 2 ^ k) k (x % 2 ^ k) i h) ∙ ap (λ n. bit_at n i) (shr_split x k))
+        ∙ sym (ap (λ b. b && has x i) (lt-ltb i k h))
     go (inr h) =
-        ap (λ n. nat_eq (n % 2) 1) (div-eq_of_lt (lt_of_lt_of_le (mod-lt x (pow_pos k)) (pow_mono h)))
+        ap (λ n. nat_eq n 1) (bit_at_above (x % 2 ^ k) k i (mod-lt x (pow_pos k)) h)
         ∙ sym (ap (λ b. b && has x i) (le-ltb i k h))
 
 -- a quotient by a power of two has the bits from there on
@@ -104,49 +79,48 @@ has_down x k i = ap (λ n. nat_eq (n % 2) 1) (shr-shr x k i ∙ ap (λ n. x / 2 
 pub has_one : (i j : ℕ) → has (2 ^ i) j ≡ (i == j)
 has_one i j = go (cases_order i j)
   where
+    other : (i ≡ j → ⊥) → has (2 ^ i) j ≡ (i == j)
+    other apart = ap (λ n. nat_eq n 1) (bit_at-pow_other i j (λ e. apart (sym e))) ∙ sym (ne_eqb i j apart)
+
     go : (i ≡ j) ⊎ ((i < j) ⊎ (j < i)) → has (2 ^ i) j ≡ (i == j)
-    go (inl e) =
-        ap (λ n. has (2 ^ i) n) (sym e) ∙ ap (λ n. nat_eq (n % 2) 1) (div_self (pow_pos i)) ∙ sym (eq-eqb i j e)
-    go (inr (inl h)) = ap (λ n. nat_eq (n % 2) 1) (div-eq_of_lt (pow-lt h)) ∙ sym (ne_eqb i j (λ e. omega arith))
-    go (inr (inr h)) =
-        ap (λ n. has n j) (omega arith) ∙ has_raised 1 i j ∙ ap (λ b. b && has 1 (j - i)) (lt-leb i j h)
-        ∙ sym (ne_eqb i j (λ e. omega arith))
+    go (inl e) = ap (λ n. has (2 ^ i) n) (sym e) ∙ ap (λ n. nat_eq n 1) (bit_at-pow_same i) ∙ sym (eq-eqb i j e)
+    go (inr (inl h)) = other (λ e. omega arith)
+    go (inr (inr h)) = other (λ e. omega arith)
 
 -- no bit of zero is set
 pub has_zero : (i : ℕ) → has 0 i ≡ false
-has_zero i = ap (λ n. nat_eq (n % 2) 1) (zero-div (2 ^ i))
+has_zero i = ap (λ n. nat_eq n 1) (bit_at-zero i)
 
 -- all of the first k bits
 pub has_all : (k i : ℕ) → i < k → has (2 ^ k - 1) i ≡ true
-has_all k i h = go (k - suc i) (omega arith)
-  where
-    go : (d : ℕ) → suc d + i ≡ k → has (2 ^ k - 1) i ≡ true
-    go d e =
-        let odd : (2 ^ suc d - 1) % 2 ≡ 1 = omega (arith, pow-suc 2 d, pow_pos d) in
-        ap (λ n. has (2 ^ n - 1) i) (sym e) ∙ ap (λ n. has n i) (ones_split (suc d) i)
-        ∙ ap (λ n. nat_eq (n % 2) 1) (high (2 ^ suc d - 1) i (ones_lt i)) ∙ ap (λ n. nat_eq n 1) odd
+has_all k i h = ap (λ n. nat_eq n 1) (bit_at_ones k i h)
+
+pub has_every : (i : ℕ) → i < 64 → has (2 ^ 64 - 1) i ≡ true
+has_every i h = has_all 64 i h
 
 -- a mask of k bits has none from k on
 pub has_beyond : (k m i : ℕ) → m < 2 ^ k → k ≤ i → has m i ≡ false
-has_beyond k m i fits h = ap (λ n. nat_eq (n % 2) 1) (div-eq_of_lt (lt_of_lt_of_le fits (pow_mono h)))
+has_beyond k m i fits h = ap (λ n. nat_eq n 1) (bit_at_above m k i fits h)
 
 -- masks of k bits with the same bits are equal
 pub mask_ext : (k x y : ℕ) → x < 2 ^ k → y < 2 ^ k → ((i : ℕ) → i < k → has x i ≡ has y i) → x ≡ y
-mask_ext zero x y hx hy same = omega arith
-mask_ext (suc k) x y hx hy same =
-    let half : x / 2 ≡ y / 2 =
-    mask_ext k (x / 2) (y / 2) (omega (arith, pow-suc 2 k)) (omega (arith, pow-suc 2 k))
-    (λ i h. has_down x 1 i ∙ same (i + 1) (omega arith) ∙ sym (has_down y 1 i)) in
-    let low : x % 2 ≡ y % 2 =
-    bit (low_cases x) (low_cases y)
-    (ap (λ n. nat_eq (n % 2) 1) (sym (div-one x)) ∙ same 0 (omega arith) ∙ ap (λ n. nat_eq (n % 2) 1) (div-one y)) in
-    omega arith
+mask_ext k x y hx hy same =
+    same_from_bits_below k x y hx hy (λ i h. bit (low_cases (x / 2 ^ i)) (low_cases (y / 2 ^ i)) (same i h))
   where
     bit : {p q : ℕ} → (p ≡ 0) ⊎ (p ≡ 1) → (q ≡ 0) ⊎ (q ≡ 1) → (p == 1) ≡ (q == 1) → p ≡ q
     bit {p} {q} (inl a) (inl b) e = a ∙ sym b
     bit {p} {q} (inl a) (inr b) e = eqb-true p 1 (e ∙ eq-eqb q 1 b) ∙ sym b
     bit {p} {q} (inr a) (inl b) e = a ∙ sym (eqb-true q 1 (sym e ∙ eq-eqb p 1 a))
     bit {p} {q} (inr a) (inr b) e = a ∙ sym b
+
+-- nothing is left of a mask of 64 bits that is shifted by 64 places or more
+pub down_past : (m k : ℕ) → m < 2 ^ 64 → 64 ≤ k → m / 2 ^ k ≡ 0
+down_past m k fits h = div-eq_of_lt (lt_of_lt_of_le fits (pow_mono h))
+
+pub up_past : (m k : ℕ) → 64 ≤ k → m * 2 ^ k % 2 ^ 64 ≡ 0
+up_past m k h =
+    ap (λ n. m * n % 2 ^ 64) (ap (λ n. 2 ^ n) (omega arith) ∙ pow-add 2 (k - 64) 64)
+    ∙ ap (λ n. n % 2 ^ 64) (sym (mul_assoc m (2 ^ (k - 64)) (2 ^ 64))) ∙ mul-mod_left (m * 2 ^ (k - 64)) (2 ^ 64)
 
 -- the bits of a mask from place `from` on, as many as the width says, moved to the places from `to` on
 unfoldable pub moved : (from to width : ℕ) → ℕ → ℕ
@@ -163,12 +137,9 @@ has_moved from to width m i h =
 pub moved_from_above : (from to width m : ℕ) → 64 ≤ from → m < 2 ^ 64 → moved from to width m ≡ 0
 unfolding moved
 moved_from_above from to width m h fits =
-    ap (λ n. n % 2 ^ width * 2 ^ to % 2 ^ 64) (div-eq_of_lt (lt_of_lt_of_le fits (pow_mono h)))
-    ∙ ap (λ n. n * 2 ^ to % 2 ^ 64) (zero-mod (2 ^ width)) ∙ ap (λ n. n % 2 ^ 64) (zero-mul (2 ^ to))
+    ap (λ n. n % 2 ^ width * 2 ^ to % 2 ^ 64) (down_past m from fits h) ∙ ap (λ n. n * 2 ^ to % 2 ^ 64) (zero-mod (2 ^ width))
+    ∙ ap (λ n. n % 2 ^ 64) (zero-mul (2 ^ to))
 
 pub moved_to_above : (from to width m : ℕ) → 64 ≤ to → moved from to width m ≡ 0
 unfolding moved
-moved_to_above from to width m h =
-    let part = m / 2 ^ from % 2 ^ width in
-    ap (λ n. part * n % 2 ^ 64) (ap (λ n. 2 ^ n) (omega arith) ∙ pow-add 2 (to - 64) 64)
-    ∙ ap (λ n. n % 2 ^ 64) (sym (mul_assoc part (2 ^ (to - 64)) (2 ^ 64))) ∙ mul-mod_left (part * 2 ^ (to - 64)) (2 ^ 64)
+moved_to_above from to width m h = up_past (m / 2 ^ from % 2 ^ width) to h

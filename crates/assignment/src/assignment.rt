@@ -4,9 +4,11 @@ ghost use Rattle.std.specs.Prelude.{◌^◌, ◌<◌};
 mod algebra;
 mod methods;
 
+pub use algebra::equality_laws;
+
 /// Option i is known yes where bit i of `yes` is set, and known no where bit i of `no` is.
 /// It is unknown where neither is set, and inconsistent where both are.
-#[derive(Clone, Copy)]
+#[derive(Clone, Copy, Debug, PartialEq, Eq)]
 pub struct Assignment {
     yes: u64,
     no: u64,

@@ -81,6 +81,7 @@ fn put_back(found: Assignment, hidden: u64, question: Assignment) -> Assignment
 }
 
 // A build that is allowed below is excluded; nothing else is changed.
+#[tactic(auto, unfolding(assignment::specs::Lattice::same))]
 fn complement<R: RuleSet>(below: &mut R, rule: u32, question: Assignment) -> Assignment
     ensures answer { result ≡ exclude ((R.RuleSet.meaning below.old).reply rule) question }
     ensures same { R.RuleSet.meaning below.new ≡ R.RuleSet.meaning below.old }

@@ -33,6 +33,7 @@ fn ask_to_the_end<R: RuleSet>(rules: &mut R, rule: u32, known: Assignment) -> As
 }
 
 // Whether asking ends with this reply: it is inconsistent, or it adds nothing to the question.
+#[tactic(auto, unfolding(assignment::specs::Lattice::same))]
 fn is_last(reply: Assignment, question: Assignment) -> bool
     ensures { result ≡ (inconsistent reply || same reply question) }
 {

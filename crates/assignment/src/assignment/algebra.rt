@@ -1,15 +1,13 @@
 // The lattice of assignments by precision, and changes of an assignment.
+#![tactic(auto, using(crate::proofs::ByMasks::by_masks), unfolding(crate::specs::Knows::knows, crate::specs::Lattice::contradiction, crate::specs::Lattice::join, crate::specs::Lattice::meet, crate::specs::Lattice::put, crate::specs::Lattice::no_from, crate::specs::Lattice::outside, crate::specs::Lattice::within, crate::specs::Lattice::equate, crate::specs::Lattice::total, crate::specs::Lattice::known_outside, crate::specs::Lattice::same))]
+
 ghost use Rattle.std.specs.Prelude.{◌≡◌, ℕ, ◌<◌, Bool, true, not, ◌&&◌, ◌||◌, Decides, ◌==◌, nat_le};
 ghost use Rattle.std.specs.Bool.{beq};
 ghost use Rattle.assignment.specs.Knows.{has, knows, Build, KnownOutside};
 ghost use Rattle.assignment.specs.Lattice.{contradiction, copied, equate, join, known_outside, meet, no_from, outside, put, same, total, whole, within};
-ghost use Rattle.assignment.specs.Laws.{same_laws};
 
 use super::Assignment;
-use crate::mask::{
-    common, every_bit, has_bit, high_bits, is_empty, is_full, is_same, less, merged, one_bit,
-    shared,
-};
+use crate::mask::{has_bit, high_bits, one_bit, shared};
 
 impl Assignment {
     /// Every option is inconsistent.
@@ -17,10 +15,7 @@ impl Assignment {
         ensures answer { result ≡ contradiction }
         ensures options { (o : ℕ) (v : Bool) → o < 64 → knows result o v ≡ true }
     {
-        Assignment {
-            yes: every_bit(),
-            no: every_bit(),
-        }
+        Assignment::new(u64::MAX, u64::MAX)
     }
 
     /// All that either knows.
@@ -28,10 +23,7 @@ impl Assignment {
         ensures answer { result ≡ join self other }
         ensures options { (o : ℕ) (v : Bool) → knows result o v ≡ (knows self o v || knows other o v) }
     {
-        Assignment {
-            yes: merged(self.yes, other.yes),
-            no: merged(self.no, other.no),
-        }
+        Assignment::new(self.yes | other.yes, self.no | other.no)
     }
 
     /// What both know.
@@ -39,10 +31,7 @@ impl Assignment {
         ensures answer { result ≡ meet self other }
         ensures options { (o : ℕ) (v : Bool) → knows result o v ≡ (knows self o v && knows other o v) }
     {
-        Assignment {
-            yes: common(self.yes, other.yes),
-            no: common(self.no, other.no),
-        }
+        Assignment::new(self.yes & other.yes, self.no & other.no)
     }
 
     /// The contradiction in place of any inconsistent assignment.
@@ -73,14 +62,9 @@ impl Assignment {
     {
         let bit = one_bit(option);
         if value {
-            return Assignment {
-                yes: merged(self.yes, bit),
-                no: self.no,
-            };
-        }
-        Assignment {
-            yes: self.yes,
-            no: merged(self.no, bit),
+            Assignment::new(self.yes | bit, self.no)
+        } else {
+            Assignment::new(self.yes, self.no | bit)
         }
     }
 
@@ -89,10 +73,7 @@ impl Assignment {
         ensures answer { result ≡ no_from first self }
         ensures options { (o : ℕ) (v : Bool) → o < 64 → knows result o v ≡ (knows self o v || (nat_le first o && not v)) }
     {
-        Assignment {
-            yes: self.yes,
-            no: merged(self.no, high_bits(first)),
-        }
+        Assignment::new(self.yes, self.no | high_bits(first))
     }
 
     /// The same with the options of a mask unknown.
@@ -100,10 +81,7 @@ impl Assignment {
         ensures answer { result ≡ outside hidden self }
         ensures options { (o : ℕ) (v : Bool) → knows result o v ≡ (knows self o v && not (has hidden o)) }
     {
-        Assignment {
-            yes: less(self.yes, hidden),
-            no: less(self.no, hidden),
-        }
+        Assignment::new(self.yes & !hidden, self.no & !hidden)
     }
 
     /// The same with all but the options of a mask unknown.
@@ -111,10 +89,7 @@ impl Assignment {
         ensures answer { result ≡ within shown self }
         ensures options { (o : ℕ) (v : Bool) → knows result o v ≡ (knows self o v && has shown o) }
     {
-        Assignment {
-            yes: common(self.yes, shown),
-            no: common(self.no, shown),
-        }
+        Assignment::new(self.yes & shown, self.no & shown)
     }
 
     /// The same with options `left + i` and `right + i`, for each i below the width, both knowing what either does.
@@ -122,10 +97,10 @@ impl Assignment {
         ensures answer { result ≡ equate left right width self }
         ensures options { (o : ℕ) (v : Bool) → o < 64 → knows result o v ≡ (knows self o v || (copied right left width self o v || copied left right width self o v)) }
     {
-        Assignment {
-            yes: shared(self.yes, left, right, width),
-            no: shared(self.no, left, right, width),
-        }
+        Assignment::new(
+            shared(self.yes, left, right, width),
+            shared(self.no, left, right, width),
+        )
     }
 
     /// Whether this is a build: every option is yes or no, and none is both.
@@ -133,7 +108,7 @@ impl Assignment {
         ensures answer { result ≡ total self }
         ensures builds { Decides result (Build self) }
     {
-        is_full(merged(self.yes, self.no)) && !self.is_inconsistent()
+        self.yes ^ self.no == u64::MAX
     }
 
     /// Whether something is known of each option that is not in the mask.
@@ -141,20 +116,12 @@ impl Assignment {
         ensures answer { result ≡ known_outside hidden self }
         ensures options { Decides result (KnownOutside hidden self) }
     {
-        let unknown = less(every_bit(), merged(self.yes, self.no));
-        is_empty(less(unknown, hidden))
+        self.yes | self.no | hidden == u64::MAX
     }
 }
 
-impl PartialEq for Assignment {
-    ghost eq = { same };
-
-    ghost laws = { same_laws };
-
-    fn eq(&self, other: &Assignment) -> bool
-        ensures answer { result ≡ same self.now other.now }
-        ensures equal { Decides result (self.now ≡ other.now) }
-    {
-        is_same(self.yes, other.yes) && is_same(self.no, other.no)
-    }
-}
+/// What `==` says of two assignments: whether both masks are the same, and with that whether the assignments are.
+pub fn equality_laws()
+    ensures answer { (a b : Assignment) → ⟦<Assignment as PartialEq>⟧.eq a b ≡ same a b }
+    ensures equal { (a b : Assignment) → Decides (⟦<Assignment as PartialEq>⟧.eq a b) (a ≡ b) }
+{}

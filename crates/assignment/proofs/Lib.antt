@@ -1,0 +1,4 @@
+pub mod ByMasks
+pub mod Complement
+pub mod FullMasks
+pub mod Shifts
