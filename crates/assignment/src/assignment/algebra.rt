@@ -108,7 +108,7 @@ impl Assignment {
         ensures answer { result ≡ total self }
         ensures builds { Decides result (Build self) }
     {
-        self.yes ^ self.no == u64::MAX
+        (self.yes ^ self.no) == u64::MAX
     }
 
     /// Whether something is known of each option that is not in the mask.
@@ -116,7 +116,7 @@ impl Assignment {
         ensures answer { result ≡ known_outside hidden self }
         ensures options { Decides result (KnownOutside hidden self) }
     {
-        self.yes | self.no | hidden == u64::MAX
+        (self.yes | self.no | hidden) == u64::MAX
     }
 }
 

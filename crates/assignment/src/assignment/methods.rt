@@ -36,8 +36,7 @@ impl Assignment {
         ensures masks { result ≡ not (bit_and self.now.yes self.now.no == 0) }
         ensures answer { result ≡ inconsistent self.now }
     {
-        let both = self.yes & self.no;
-        both != 0
+        (self.yes & self.no) != 0
     }
 
     /// What is known of an option; nothing is known of an option from 64 on.
