@@ -1,2 +1,3 @@
 pub mod Drafts
 pub mod Fields
+pub mod Ops

@@ -1,7 +1,7 @@
 // An entry of a folder: one rule, made of rules of the rule set below.
 
 /// Rules below are named by their numbers.
-#[derive(Clone, Copy)]
+#[derive(Clone, Copy, Debug, PartialEq, Eq)]
 pub enum Entry {
     /// The same rule.
     Carry {

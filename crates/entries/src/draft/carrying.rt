@@ -5,17 +5,18 @@ ghost use Rattle.entries.specs.declared.entry.Entry.TheVariants.{Carry};
 
 use super::Draft;
 use crate::entry::Entry;
-use crate::space::EntrySpace;
+use crate::space::{EntrySpace, MAX_ENTRIES};
 
 impl Draft {
     /// A draft that carries each rule below under its own number, the first 32 of them.
+    #[tactic(auto, unfolding(crate::specs::Drafts::carries))]
     pub fn carrying(space: EntrySpace, options: u32, below: u32) -> Draft
         ensures options { result.options ≡ options }
         ensures below { result.below ≡ below }
         ensures entries { result.entries.items ≡ carries (min below 32) }
     {
         let EntrySpace { mut entries } = space;
-        for rule in 0..below.min(32) {
+        for rule in 0..below.min(MAX_ENTRIES as u32) {
             entries.push_reserved(carry(rule));
         }
         Draft {

@@ -1,5 +1,5 @@
 // Filling a draft, and reading what it holds.
-ghost use Rattle.std.specs.Prelude.{◌≡◌, [], ◌∷◌, ◌++◌, is_ok, if◌then◌else◌};
+ghost use Rattle.std.specs.Prelude.{◌≡◌, [], ◌∷◌, ◌++◌, ◌<◌, is_ok, IfOk, OnOk, vec_len, if◌then◌else◌};
 ghost use Rattle.refusals.specs.Checks.{judged};
 ghost use Rattle.entries.specs.Fields.{entry_of};
 ghost use Rattle.entries.specs.Drafts.{draft_checks};
@@ -9,6 +9,8 @@ use crate::entry::Entry;
 use crate::fields::EntryFields;
 use crate::space::{EntrySpace, MAX_ENTRIES};
 use refusals::Refusal;
+
+const MAX_OPTIONS: u32 = 64;
 
 impl Draft {
     /// A draft with no entry, told the number of options and of the rules below; any numbers may be told.
@@ -39,15 +41,14 @@ impl Draft {
 
     // The entry that may be added, or the first refusal that applies.
     fn check(&self, fields: EntryFields) -> Result<Entry, Refusal>
-        ensures { result ≡ judged (draft_checks self.now fields) (entry_of fields) }
+        ensures answer { result ≡ judged (draft_checks self.now fields) (entry_of fields) }
+        ensures room { OnOk result (vec_len self.now.entries < 32) }
+        ensures value { IfOk result (λ entry. entry ≡ entry_of fields) }
     {
         if self.entries.len() >= MAX_ENTRIES {
             return Err(Refusal::TooMany);
         }
-        if self.options == 0 {
-            return Err(Refusal::OutOfRange);
-        }
-        if self.options > 64 {
+        if self.options == 0 || self.options > MAX_OPTIONS {
             return Err(Refusal::OutOfRange);
         }
         fields.entry(self.options, self.below)
