@@ -1,6 +1,6 @@
 -- The laws of closures.
-use Rattle.std.proofs.Common.{◌≡◌, ℕ, zero, suc, ◌+◌, ◌<◌, ◌≤◌, Bool, true, false, cond, ◌||◌, sym, refl, ap, ◌∙◌, subst, arith}
-use Rattle.std.proofs.lemmas.Bool.{both_ways, or_parts}
+use Rattle.std.proofs.Common.{◌≡◌, ℕ, zero, suc, ◌+◌, ◌<◌, ◌≤◌, Bool, true, false, cond, sym, refl, ap, ◌∙◌, subst, ◌≢◌, ◌||◌, arith}
+use Rattle.std.proofs.lemmas.Bool.{both_ways, or_parts, true_from_ne_false}
 use Rattle.assignment.specs.Lattice.{contradiction, inconsistent, Refines, same, whole}
 use Rattle.assignment.specs.Laws.{consistent_down, contradiction_top, inconsistent_up, refines_antisym, refines_equal, refines_refl, refines_trans, same_true, top_only, true_same}
 use Rattle.assignment.specs.Size.{size, size_few, size_grows}
@@ -12,11 +12,8 @@ use Rattle.ruleset.specs.Meaning.{LawfulRule}
 -- so many rounds suffice, since each but the last adds to what is known, and a consistent reply knows at most 64 values
 asked_rounds : (n : ℕ) (f : Rule) → LawfulRule f → (a : Assignment) → 64 < n + size 64 a → Asked f a (rounds n f a)
 unfolding rounds
-asked_rounds zero f l a h = dead (go (inconsistent (f a)) refl)
-  where
-    go : (b : Bool) → inconsistent (f a) ≡ b → inconsistent (f a) ≡ true
-    go true e = e
-    go false e = absurd (omega (arith, size_few 64 a (consistent_down (l.extensive a) e)))
+asked_rounds zero f l a h =
+    dead (true_from_ne_false (inconsistent (f a)) (λ e. omega (arith, size_few 64 a (consistent_down (l.extensive a) e))))
 asked_rounds (suc n) f l a h = go (inconsistent (f a)) refl (asked_rounds n f l (f a))
   where
     other : inconsistent (f a) ≡ false → (b : Bool) → same (f a) a ≡ b → (64 < n + size 64 (f a) → Asked f (f a) (rounds n f (f a))) → Asked f a (cond b a (rounds n f (f a)))
@@ -78,19 +75,31 @@ closure_grows f g lf lg less b a r =
     let from = closure_least g lg b in
     (closure_least f lf a).least (closure g b) (stable_down f g lf less (closure g b) from.stable) (refines_trans from.above r)
 
+-- what a closure is, for whatever is equal to it
+pub record Closed (f : Rule) (a c : Assignment) : Type 0 where
+  pub answer : c ≡ closure f a
+  pub least : Least f a c
+  pub asked : Asked f a c
+
+pub closed : (f : Rule) → LawfulRule f → (a c : Assignment) → c ≡ closure f a → Closed f a c
+closed f l a c e =
+    record {
+      answer = e;
+      least = subst (Least f a) (sym e) (closure_least f l a);
+      asked = subst (Asked f a) (sym e) (closure_asked f l a);
+    }
+
 -- one round, with the reply r: the last, or one after which the rule is asked again
 
-pub closure_last : (f : Rule) → LawfulRule f → (a r : Assignment) → r ≡ f a → (inconsistent r || same r a) ≡ true → closure f a ≡ whole r
-closure_last f l a r reply = subst (λ x. (inconsistent x || same x a) ≡ true → closure f a ≡ whole x) (sym reply) last
+pub closure_last : (f : Rule) → LawfulRule f → (a r : Assignment) → r ≡ f a → true ≡ (inconsistent r || same r a) → whole r ≡ closure f a
+closure_last f l a r reply e = go (inconsistent r) refl
   where
-    last : (inconsistent (f a) || same (f a) a) ≡ true → closure f a ≡ whole (f a)
-    last e = go (inconsistent (f a)) refl
-      where
-        go : (b : Bool) → inconsistent (f a) ≡ b → closure f a ≡ cond b contradiction (f a)
-        go true i = asked_once f a (closure f a) contradiction (closure_asked f l a) (dead i)
-        go false i =
-            let settled : f a ≡ a = same_true (f a) a (sym (ap (λ b. b || same (f a) a) i) ∙ e) in
-            asked_once f a (closure f a) a (closure_asked f l a) (fixed i settled) ∙ sym settled
+    go : (b : Bool) → inconsistent r ≡ b → cond b contradiction r ≡ closure f a
+    go true i = asked_once f a contradiction (closure f a) (dead (ap inconsistent (sym reply) ∙ i)) (closure_asked f l a)
+    go false i =
+        let settled : r ≡ a = same_true r a (sym (e ∙ ap (λ b. b || same r a) i)) in
+        settled
+        ∙ asked_once f a a (closure f a) (fixed (ap inconsistent (sym reply) ∙ i) (sym reply ∙ settled)) (closure_asked f l a)
 
 -- the reply has the same closure as the question, and knows more, though not too much
 pub record More (f : Rule) (a r : Assignment) : Type 0 where
@@ -98,15 +107,13 @@ pub record More (f : Rule) (a r : Assignment) : Type 0 where
   pub larger : size 64 a < size 64 r
   pub few : size 64 r ≤ 64
 
-pub closure_more : (f : Rule) → LawfulRule f → (a r : Assignment) → r ≡ f a → (inconsistent r || same r a) ≡ false → More f a r
-closure_more f l a r reply = subst (λ x. (inconsistent x || same x a) ≡ false → More f a x) (sym reply) more
-  where
-    more : (inconsistent (f a) || same (f a) a) ≡ false → More f a (f a)
-    more e =
-        let parts = or_parts (inconsistent (f a)) (same (f a) a) e in
-        let new : f a ≡ a → ⊥ = λ equal. both_ways (same (f a) a) parts.1 (true_same (f a) a equal) in
-        record {
-          closed = asked_once f a (closure f (f a)) (closure f a) (again parts.0 new (closure_asked f l (f a))) (closure_asked f l a);
-          larger = size_grows (l.extensive a) new;
-          few = size_few 64 (f a) parts.0;
-        }
+pub closure_more : (f : Rule) → LawfulRule f → (a r : Assignment) → r ≡ f a → false ≡ (inconsistent r || same r a) → More f a r
+closure_more f l a r reply e =
+    let parts = or_parts (inconsistent r) (same r a) (sym e) in
+    let new : r ≢ a = λ s. both_ways (same r a) parts.1 (true_same r a s) in
+    let next : Asked f (f a) (closure f r) = subst (λ x. Asked f x (closure f r)) reply (closure_asked f l r) in
+    record {
+      closed = asked_once f a (closure f r) (closure f a) (again (ap inconsistent (sym reply) ∙ parts.0) (λ s. new (reply ∙ s)) next) (closure_asked f l a);
+      larger = size_grows (subst (λ x. Refines x a) (sym reply) (l.extensive a)) new;
+      few = size_few 64 r parts.0;
+    }

@@ -1,39 +1,94 @@
--- Whether a search tree has a leaf, by how the tree begins.
-use Rattle.std.proofs.Common.{◌≡◌, ℕ, true, false, ◌||◌, List, [], ◌∷◌, length, sym, ap, ◌∙◌, ap₂, arith}
+-- Whether a search tree has a leaf, by the first option of the list of which nothing is known.
+use Rattle.std.proofs.Common.{◌≡◌, ℕ, zero, suc, ◌+◌, ◌-◌, ◌<◌, ◌≤◌, Bool, true, false, cond, not, ◌||◌, nat_lt, List, [], ◌∷◌, length, take, drop, get_or, position, Some, None, Decides, sym, refl, ap, ◌∙◌, add-one, arith}
+use Rattle.std.proofs.lemmas.Bool.{not-false, not-true}
+use Rattle.std.proofs.lemmas.Bool.Decides.{Decides-at, nat_tests}
+use Rattle.std.proofs.lemmas.List.{take_rest}
+use Rattle.std.proofs.lemmas.List.Quantifiers.{position-Some}
+use Rattle.std.specs.List.{position_or_len}
 use Rattle.assignment.specs.Knows.{known}
 use Rattle.assignment.specs.Lattice.{inconsistent, put}
 use Rattle.assignment.specs.declared.assignment.Assignment.{Assignment}
 use Rattle.ruleset.specs.Closure.{closure}
+use Rattle.ruleset.specs.Fillings.{fills}
 use Rattle.ruleset.specs.Listed.{Rule}
-use Rattle.ruleset.specs.Meaning.{Meaning}
-use Rattle.ruleset.specs.Tree.{finds, tree}
+use Rattle.ruleset.specs.Meaning.{LawfulRule, Meaning}
+use Rattle.ruleset.specs.Tree.{Below, Covers, finds, Fits, tree}
+use Rattle.ruleset.proofs.FillingLaws.{fills_builds, search_fills}
 use Rattle.ruleset.proofs.TreeLaws.{tree_choice, tree_dead, tree_leaf, tree_skip}
+
+abbrev unknown : Assignment → ℕ → Bool
+unknown c o = not (known c o)
 
 pub finds_dead : (f : Rule) (os : List ℕ) (c : Assignment) → true ≡ inconsistent c → false ≡ finds (tree f os c)
 finds_dead f os c i = sym (ap finds (tree_dead f os c (sym i)))
 
-pub finds_leaf : (f : Rule) (os : List ℕ) (c : Assignment) → length os ≡ 0 → false ≡ inconsistent c → true ≡ finds (tree f os c)
-finds_leaf f [] c e i = sym (ap finds (tree_leaf f c (sym i)))
-finds_leaf f (o ∷ os) c e i = absurd (omega arith)
+-- every option of the list is known
+leaf_found : (f : Rule) (os : List ℕ) (c : Assignment) → false ≡ inconsistent c → length os ≤ position_or_len (unknown c) os → true ≡ finds (tree f os c)
+leaf_found f [] c i h = sym (ap finds (tree_leaf f c (sym i)))
+leaf_found f (o ∷ os) c i h = go (known c o) refl h (leaf_found f os c i)
+  where
+    go : (k : Bool) → known c o ≡ k → suc (length os) ≤ cond (not (not k)) (1 + position_or_len (unknown c) os) 0 → (length os ≤ position_or_len (unknown c) os → true ≡ finds (tree f os c)) → true ≡ finds (tree f (o ∷ os) c)
+    go true k l rest = rest (omega arith) ∙ sym (ap finds (tree_skip f o os c k))
+    go false k l rest = absurd (omega arith)
 
--- with an option o, as the first of the list, p, is read
+pub finds_leaf : (f : Rule) (os : List ℕ) (c : Assignment) → false ≡ inconsistent c → position (unknown c) os ≡ None → true ≡ finds (tree f os c)
+finds_leaf f os c i none = leaf_found f os c i (past (position_or_len (unknown c) os) (length os) none)
+  where
+    past : (n l : ℕ) → cond (nat_lt n l) (Some n) None ≡ None → l ≤ n
+    past n l h = grind (arith, nat_tests)
 
-pub finds_skip : {p : ℕ} {rest : List ℕ} (f : Rule) (os : List ℕ) (o : ℕ) (c : Assignment) → os ≡ p ∷ rest → o ≡ p → true ≡ known c o → finds (tree f rest c) ≡ finds (tree f os c)
-finds_skip {p} {rest} f os o c split read k =
-    sym (ap (λ ps. finds (tree f ps c)) (split ∙ ap (λ q. q ∷ rest) (sym read)) ∙ ap finds (tree_skip f o rest c (sym k)))
+-- the options after place i
+abbrev pub after : List ℕ → ℕ → List ℕ
+after os i = take (length os - (i + 1)) (drop (i + 1) os)
 
-finds_choice : {p : ℕ} {rest : List ℕ} (f : Rule) (os : List ℕ) (o : ℕ) (c : Assignment) → os ≡ p ∷ rest → o ≡ p → false ≡ inconsistent c → false ≡ known c o → (finds (tree f rest (closure f (put o true c))) || finds (tree f rest (closure f (put o false c)))) ≡ finds (tree f os c)
-finds_choice {p} {rest} f os o c split read i k =
-    sym (ap (λ ps. finds (tree f ps c)) (split ∙ ap (λ q. q ∷ rest) (sym read)) ∙ ap finds (tree_choice f o rest c (sym i) (sym k)))
+choice_found : (f : Rule) (os : List ℕ) (i : ℕ) (c : Assignment) → false ≡ inconsistent c → i < length os → known c (get_or os i 0) ≡ false → ((k : ℕ) → k < i → known c (get_or os k 0) ≡ true) → (finds (tree f (drop (suc i) os) (closure f (put (get_or os i 0) true c))) || finds (tree f (drop (suc i) os) (closure f (put (get_or os i 0) false c)))) ≡ finds (tree f os c)
+choice_found f [] i c alive h new before = absurd (omega arith)
+choice_found f (o ∷ os) zero c alive h new before = sym (ap finds (tree_choice f o os c (sym alive) new))
+choice_found f (o ∷ os) (suc i) c alive h new before =
+    choice_found f os i c alive (omega arith) new (λ k l. before (suc k) (omega arith))
+    ∙ sym (ap finds (tree_skip f o os c (before 0 (omega arith))))
 
-pub finds_yes : {p : ℕ} {rest : List ℕ} (f : Rule) (os : List ℕ) (o : ℕ) (c : Assignment) → os ≡ p ∷ rest → o ≡ p → false ≡ inconsistent c → false ≡ known c o → true ≡ finds (tree f rest (closure f (put o true c))) → true ≡ finds (tree f os c)
-finds_yes {p} {rest} f os o c split read i k found =
-    ap (λ b. b || finds (tree f rest (closure f (put o false c)))) found ∙ finds_choice f os o c split read i k
+finds_choice : (f : Rule) (os : List ℕ) (i o : ℕ) (c : Assignment) → false ≡ inconsistent c → position (unknown c) os ≡ Some i → o ≡ get_or os i 0 → (finds (tree f (after os i) (closure f (put o true c))) || finds (tree f (after os i) (closure f (put o false c)))) ≡ finds (tree f os c)
+finds_choice f os i o c alive place read =
+    let at = position-Some (unknown c) os i 0 place in
+    let rest : after os i ≡ drop (suc i) os = take_rest os (i + 1) ∙ ap (λ n. drop n os) (add-one i) in
+    ap (λ ps. finds (tree f ps (closure f (put o true c))) || finds (tree f ps (closure f (put o false c)))) rest
+    ∙ ap (λ p. finds (tree f (drop (suc i) os) (closure f (put p true c))) || finds (tree f (drop (suc i) os) (closure f (put p false c)))) read
+    ∙ choice_found f os i c alive at.0 (not-true (known c (get_or os i 0)) at.1) (λ k l. not-false (known c (get_or os k 0)) (at.2 k l))
 
-pub finds_no : {p : ℕ} {rest : List ℕ} (f : Rule) (os : List ℕ) (o : ℕ) (c : Assignment) → os ≡ p ∷ rest → o ≡ p → false ≡ inconsistent c → false ≡ known c o → false ≡ finds (tree f rest (closure f (put o true c))) → finds (tree f rest (closure f (put o false c))) ≡ finds (tree f os c)
-finds_no {p} {rest} f os o c split read i k missed =
-    ap (λ b. b || finds (tree f rest (closure f (put o false c)))) missed ∙ finds_choice f os o c split read i k
+pub finds_yes : (f : Rule) (os : List ℕ) (i o : ℕ) (c : Assignment) → false ≡ inconsistent c → position (unknown c) os ≡ Some i → o ≡ get_or os i 0 → true ≡ finds (tree f (after os i) (closure f (put o true c))) → true ≡ finds (tree f os c)
+finds_yes f os i o c alive place read found =
+    ap (λ b. b || finds (tree f (after os i) (closure f (put o false c)))) found
+    ∙ finds_choice f os i o c alive place read
+
+pub finds_no : (f : Rule) (os : List ℕ) (i o : ℕ) (c : Assignment) → false ≡ inconsistent c → position (unknown c) os ≡ Some i → o ≡ get_or os i 0 → false ≡ finds (tree f (after os i) (closure f (put o true c))) → finds (tree f (after os i) (closure f (put o false c))) ≡ finds (tree f os c)
+finds_no f os i o c alive place read missed =
+    ap (λ b. b || finds (tree f (after os i) (closure f (put o false c)))) missed
+    ∙ finds_choice f os i o c alive place read
 
 -- a set of rules that means the same finds the same below the same
-pub finds_same : {m' m : Meaning} {a b : Assignment} (k : ℕ) (os : List ℕ) → m' ≡ m → a ≡ b → finds (tree (m'.reply k) os a) ≡ finds (tree (m.reply k) os b)
-finds_same k os e h = ap₂ (λ (m : Meaning) a. finds (tree (m.reply k) os a)) e h
+pub finds_same : {n m : Meaning} {a b : Assignment} (k : ℕ) (os : List ℕ) → n ≡ m → a ≡ b → finds (tree (n.reply k) os (closure (n.reply k) a)) ≡ finds (tree (m.reply k) os (closure (m.reply k) b))
+finds_same {n} {m} {a} {b} k os e h =
+    ap (λ (p : Meaning). finds (tree (p.reply k) os (closure (p.reply k) a))) e
+    ∙ ap (λ x. finds (tree (m.reply k) os (closure (m.reply k) x))) h
+
+-- what a search says that answers r
+pub record Found (f : Rule) (os : List ℕ) (a : Assignment) (r : Bool) : Type 0 where
+  pub answer : r ≡ finds (tree f os (closure f a))
+  pub fills : Below os → Covers os a → r ≡ fills f os a
+  pub builds : Below os → Covers os a → Decides r ((b : Assignment) × Fits f a b)
+
+-- c is the closure of what is known
+pub found : (f : Rule) → LawfulRule f → (os : List ℕ) (a c : Assignment) (r : Bool) → c ≡ closure f a → r ≡ finds (tree f os c) → Found f os a r
+found f l os a c r closed e =
+    record {
+      answer = at;
+      fills = filled;
+      builds = λ below covers. Decides-at _ _ (filled below covers) ((fills_builds f os a).0, λ b. (fills_builds f os a).1 below covers b.0 b.1);
+    }
+  where
+    at : r ≡ finds (tree f os (closure f a))
+    at = e ∙ ap (λ x. finds (tree f os x)) closed
+
+    filled : Below os → Covers os a → r ≡ fills f os a
+    filled below covers = at ∙ search_fills f l os below a covers

@@ -2,10 +2,10 @@
 use Rattle.std.proofs.Common.{◌≡◌, ℕ, ◌<◌, Bool, true, false, ◌⊎◌, List, [], ◌∷◌, refl, ap, ◌∙◌, inl, inr}
 use mathlib.Core.List.Memᴰ
 use mathlib.Core.List.{Memᴰ}
-use Rattle.std.proofs.lemmas.Bool.{both_ways}
+use Rattle.std.proofs.lemmas.Bool.{both_ways, false_from_ne_true, true_from_ne_false}
 use Rattle.assignment.specs.Knows.{known, knows}
 use Rattle.assignment.specs.Lattice.{inconsistent, put, Refines, Total}
-use Rattle.assignment.specs.Laws.{inconsistent_up, known_up, put_least, refines_trans, total_above, total_by, total_consistent, total_other}
+use Rattle.assignment.specs.Laws.{consistent_down, known_up, put_least, refines_trans, total_above, total_by, total_consistent, total_other}
 use Rattle.assignment.specs.declared.assignment.Assignment.{Assignment}
 use Rattle.ruleset.specs.Closure.{closure}
 use Rattle.ruleset.specs.Listed.{Rule}
@@ -14,11 +14,8 @@ use Rattle.ruleset.specs.Tree.{Covers, Fits}
 use Rattle.ruleset.proofs.ClosureLaws.{closure_least}
 
 pub covers_up : {d c : Assignment} (os : List ℕ) → Refines d c → Covers os c → Covers os d
-covers_up {d} {c} os r cov o h u = cov o h (go (known c o) refl)
-  where
-    go : (b : Bool) → known c o ≡ b → known c o ≡ false
-    go true k = absurd (both_ways (known d o) u (known_up r o k))
-    go false k = k
+covers_up {d} {c} os r cov o h u =
+    cov o h (false_from_ne_true (known c o) (λ k. both_ways (known d o) u (known_up r o k)))
 
 pub covers_tail : (o : ℕ) (os : List ℕ) (c : Assignment) → known c o ≡ true → Covers (o ∷ os) c → Covers os c
 covers_tail o os c k cov p h u = go (Memᴰ.cases_cons (cov p h u))
@@ -28,11 +25,7 @@ covers_tail o os c k cov p h u = go (Memᴰ.cases_cons (cov p h u))
     go (inr m) = m
 
 pub covers_total : (c : Assignment) → Covers [] c → inconsistent c ≡ false → Total c
-covers_total c cov i = total_by c (λ o h. go o h (known c o) refl) i
-  where
-    go : (o : ℕ) → o < 64 → (b : Bool) → known c o ≡ b → known c o ≡ true
-    go o h true k = k
-    go o h false k = absurd (Memᴰ.not-nil (cov o h k))
+covers_total c cov i = total_by c (λ o h. true_from_ne_false (known c o) (λ u. Memᴰ.not-nil (cov o h u))) i
 
 -- a build that fits is above the closure of whatever it refines
 pub fits_closure : (f : Rule) → LawfulRule f → (a b : Assignment) → Fits f a b → Fits f (closure f a) b
@@ -54,11 +47,7 @@ fits_put f o c b h fit = go (knows b o true) refl
     go false e = inr (fit.0, put_least o false fit.1 (total_other b fit.0 o h true e), fit.2)
 
 pub fits_consistent : (f : Rule) (c b : Assignment) → Fits f c b → inconsistent c ≡ false
-fits_consistent f c b fit = go (inconsistent c) refl
-  where
-    go : (v : Bool) → inconsistent c ≡ v → inconsistent c ≡ false
-    go true i = absurd (both_ways (inconsistent b) (total_consistent b fit.0) (inconsistent_up fit.1 i))
-    go false i = i
+fits_consistent f c b fit = consistent_down fit.1 (total_consistent b fit.0)
 
 -- where nothing is unknown only the assignment itself fits
 pub fits_whole : (f : Rule) (c b : Assignment) → Covers [] c → Fits f c b → b ≡ c

@@ -14,14 +14,6 @@ pub fn closure<R: RuleSet>(rules: &mut R, rule: u32, known: Assignment) -> Assig
     ensures asked { Asked ((R.RuleSet.meaning rules.old).reply rule) known result }
     ensures same { R.RuleSet.meaning rules.new ≡ R.RuleSet.meaning rules.old }
 {
-    ask_to_the_end(rules, rule, known)
-}
-
-// The rounds of questions, up to the last.
-fn ask_to_the_end<R: RuleSet>(rules: &mut R, rule: u32, known: Assignment) -> Assignment
-    ensures answer { result ≡ closed ((R.RuleSet.meaning rules.old).reply rule) known }
-    ensures same { R.RuleSet.meaning rules.new ≡ R.RuleSet.meaning rules.old }
-{
     let mut current = known;
     loop {
         let reply = rules.propagate(rule, current);

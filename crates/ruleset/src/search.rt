@@ -1,7 +1,6 @@
 // The search for a build that a rule allows.
-ghost use Rattle.std.specs.Prelude.{◌≡◌, Decides};
+ghost use Rattle.std.specs.Prelude.{◌≡◌, not, position, Decides};
 ghost use Rattle.assignment.specs.Knows.{known as anything_known};
-ghost use Rattle.assignment.specs.Lattice.{put};
 ghost use Rattle.ruleset.specs.Closure.{closure as closed};
 ghost use Rattle.ruleset.specs.Fillings.{fills as fillings, FillsBuilds, SearchFills};
 ghost use Rattle.ruleset.specs.Tree.{Below, Covers, finds, Fits, tree, TreeLaw, TreeLists};
@@ -20,44 +19,25 @@ pub fn finds_build<R: RuleSet>(rules: &mut R, rule: u32, options: &[u8], known: 
     ensures same { R.RuleSet.meaning rules.new ≡ R.RuleSet.meaning rules.old }
 {
     let settled = closure(rules, rule, known);
-    finds_below(rules, rule, options, settled)
-}
-
-// Whether the search tree below an assignment that is closed has a leaf.
-fn finds_below<R: RuleSet>(rules: &mut R, rule: u32, options: &[u8], settled: Assignment) -> bool
-    ensures answer { result ≡ finds (tree ((R.RuleSet.meaning rules.old).reply rule) options.now settled) }
-    ensures same { R.RuleSet.meaning rules.new ≡ R.RuleSet.meaning rules.old }
-{
     if settled.is_inconsistent() {
         return false;
     }
-    let Some((first, rest)) = options.split_first() else {
+    let Some(next) = first_unknown(options, settled) else {
         return true;
     };
-    let option = u32::from(*first);
-    if is_known(settled, option) {
-        return finds_below(rules, rule, rest, settled);
-    }
-    let with_yes = choose(rules, rule, settled, option, true);
-    if finds_below(rules, rule, rest, with_yes) {
-        return true;
-    }
-    let with_no = choose(rules, rule, settled, option, false);
-    finds_below(rules, rule, rest, with_no)
+    let option = u32::from(options[next]);
+    let rest = &options[next + 1..];
+    finds_build(rules, rule, rest, settled.with(option, true))
+        || finds_build(rules, rule, rest, settled.with(option, false))
 }
 
-// What the rule makes of what is known with one option chosen.
-fn choose<R: RuleSet>(
-    rules: &mut R,
-    rule: u32,
-    settled: Assignment,
-    option: u32,
-    value: bool,
-) -> Assignment
-    ensures answer { result ≡ closed ((R.RuleSet.meaning rules.old).reply rule) (put option value settled) }
-    ensures same { R.RuleSet.meaning rules.new ≡ R.RuleSet.meaning rules.old }
+// The place of the first option of the list of which nothing is known.
+fn first_unknown(options: &[u8], settled: Assignment) -> Option<usize>
+    ensures { result ≡ position (λ option. not (anything_known settled option)) options.now }
 {
-    closure(rules, rule, settled.with(option, value))
+    options
+        .iter()
+        .position(|&option| !is_known(settled, u32::from(option)))
 }
 
 // Whether anything is known of an option.

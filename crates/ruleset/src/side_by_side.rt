@@ -5,6 +5,8 @@ ghost use Rattle.ruleset.specs.SideBySide.{SideBySideReplies, side_by_side, side
 use crate::rules::RuleSet;
 use assignment::Assignment;
 
+const MAX_RULES: u32 = 64;
+
 /// The rules of the first, and after them those of the second; of both together the first 64.
 #[derive(Drop)]
 pub struct SideBySide<A, B> {
@@ -27,8 +29,7 @@ impl<A: RuleSet, B: RuleSet> RuleSet for SideBySide<A, B> {
     ghost lawful = { λ s. side_by_side_lawful (A.RuleSet.lawful s.first) (B.RuleSet.lawful s.second) };
 
     fn count(&self) -> u32 {
-        let both = self.first.count() + self.second.count();
-        if both < 64 { both } else { 64 }
+        (self.first.count() + self.second.count()).min(MAX_RULES)
     }
 
     fn propagate(&mut self, rule: u32, question: Assignment) -> Assignment {

@@ -2,12 +2,15 @@
 use Rattle.std.proofs.Common.{◌≡◌, ◌-◌}
 use Rattle.assignment.specs.Size.{size}
 use Rattle.ruleset.specs.Closure.{closure}
-use Rattle.ruleset.proofs.closing.ask_to_the_end.Given as goal
+use Rattle.ruleset.proofs.closing.closure.Given as goal
 
 abbrev pub invariant-loop-reply : goal.invariant-loop-reply
 invariant-loop-reply g l =
-    (g.R.RuleSet.meaning l.rules ≡ g.R.RuleSet.meaning l.initial.rules)
-    × (closure ((g.R.RuleSet.meaning l.initial.rules).reply l.rule) l.current ≡ closure ((g.R.RuleSet.meaning l.initial.rules).reply l.rule) l.initial.current)
+    let f = (g.R.RuleSet.meaning l.initial.rules).reply l.rule in
+    record {
+      same : g.R.RuleSet.meaning l.rules ≡ g.R.RuleSet.meaning l.initial.rules;
+      closed : closure f l.current ≡ closure f l.initial.current;
+    }
 
 abbrev pub decreases-loop-reply : goal.decreases-loop-reply
 decreases-loop-reply g l = 64 - size 64 l.current
