@@ -11,13 +11,10 @@ use Rattle.assignment.specs.declared.assignment.Assignment.{Assignment}
 use Rattle.ruleset.specs.Closure.{closure}
 use Rattle.ruleset.specs.Fillings.{fills}
 use Rattle.ruleset.specs.Listed.{Rule}
-use Rattle.ruleset.specs.Meaning.{LawfulRule, Meaning}
-use Rattle.ruleset.specs.Tree.{Below, Covers, finds, Fits, tree}
+use Rattle.ruleset.specs.Meaning.{LawfulRule}
+use Rattle.ruleset.specs.Tree.{Below, Covers, finds, Fits, tree, unknown}
 use Rattle.ruleset.proofs.FillingLaws.{fills_builds, search_fills}
 use Rattle.ruleset.proofs.TreeLaws.{tree_choice, tree_dead, tree_leaf, tree_skip}
-
-abbrev unknown : Assignment → ℕ → Bool
-unknown c o = not (known c o)
 
 pub finds_dead : (f : Rule) (os : List ℕ) (c : Assignment) → true ≡ inconsistent c → false ≡ finds (tree f os c)
 finds_dead f os c i = sym (ap finds (tree_dead f os c (sym i)))
@@ -66,29 +63,19 @@ finds_no f os i o c alive place read missed =
     ap (λ b. b || finds (tree f (after os i) (closure f (put o false c)))) missed
     ∙ finds_choice f os i o c alive place read
 
--- a set of rules that means the same finds the same below the same
-pub finds_same : {n m : Meaning} {a b : Assignment} (k : ℕ) (os : List ℕ) → n ≡ m → a ≡ b → finds (tree (n.reply k) os (closure (n.reply k) a)) ≡ finds (tree (m.reply k) os (closure (m.reply k) b))
-finds_same {n} {m} {a} {b} k os e h =
-    ap (λ (p : Meaning). finds (tree (p.reply k) os (closure (p.reply k) a))) e
-    ∙ ap (λ x. finds (tree (m.reply k) os (closure (m.reply k) x))) h
-
 -- what a search says that answers r
 pub record Found (f : Rule) (os : List ℕ) (a : Assignment) (r : Bool) : Type 0 where
   pub answer : r ≡ finds (tree f os (closure f a))
   pub fills : Below os → Covers os a → r ≡ fills f os a
   pub builds : Below os → Covers os a → Decides r ((b : Assignment) × Fits f a b)
 
--- c is the closure of what is known
-pub found : (f : Rule) → LawfulRule f → (os : List ℕ) (a c : Assignment) (r : Bool) → c ≡ closure f a → r ≡ finds (tree f os c) → Found f os a r
-found f l os a c r closed e =
+pub found : (f : Rule) → LawfulRule f → (os : List ℕ) (a : Assignment) (r : Bool) → r ≡ finds (tree f os (closure f a)) → Found f os a r
+found f l os a r e =
     record {
-      answer = at;
+      answer = e;
       fills = filled;
       builds = λ below covers. Decides-at _ _ (filled below covers) ((fills_builds f os a).0, λ b. (fills_builds f os a).1 below covers b.0 b.1);
     }
   where
-    at : r ≡ finds (tree f os (closure f a))
-    at = e ∙ ap (λ x. finds (tree f os x)) closed
-
     filled : Below os → Covers os a → r ≡ fills f os a
-    filled below covers = at ∙ search_fills f l os below a covers
+    filled below covers = e ∙ search_fills f l os below a covers

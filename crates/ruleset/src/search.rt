@@ -1,9 +1,9 @@
 // The search for a build that a rule allows.
-ghost use Rattle.std.specs.Prelude.{◌≡◌, not, position, Decides};
+ghost use Rattle.std.specs.Prelude.{◌≡◌, position, Decides};
 ghost use Rattle.assignment.specs.Knows.{known as anything_known};
 ghost use Rattle.ruleset.specs.Closure.{closure as closed};
 ghost use Rattle.ruleset.specs.Fillings.{fills as fillings, FillsBuilds, SearchFills};
-ghost use Rattle.ruleset.specs.Tree.{Below, Covers, finds, Fits, tree, TreeLaw, TreeLists};
+ghost use Rattle.ruleset.specs.Tree.{Below, Covers, finds, Fits, tree, TreeLaw, TreeLists, unknown};
 
 use crate::closing::closure;
 use crate::rules::RuleSet;
@@ -18,6 +18,15 @@ pub fn finds_build<R: RuleSet>(rules: &mut R, rule: u32, options: &[u8], known: 
     ensures builds { Below options.now → Covers options.now known → Decides result ((b : Assignment) × Fits ((R.RuleSet.meaning rules.old).reply rule) known b) }
     ensures same { R.RuleSet.meaning rules.new ≡ R.RuleSet.meaning rules.old }
 {
+    has_leaf(rules, rule, options, known)
+}
+
+// Whether that tree has a leaf.
+#[tactic(auto, using(crate::proofs::Finding::finds_dead, crate::proofs::Finding::finds_leaf, crate::proofs::Finding::finds_yes, crate::proofs::Finding::finds_no))]
+fn has_leaf<R: RuleSet>(rules: &mut R, rule: u32, options: &[u8], known: Assignment) -> bool
+    ensures answer { result ≡ finds (tree ((R.RuleSet.meaning rules.old).reply rule) options.now (closed ((R.RuleSet.meaning rules.old).reply rule) known)) }
+    ensures same { R.RuleSet.meaning rules.new ≡ R.RuleSet.meaning rules.old }
+{
     let settled = closure(rules, rule, known);
     if settled.is_inconsistent() {
         return false;
@@ -27,13 +36,13 @@ pub fn finds_build<R: RuleSet>(rules: &mut R, rule: u32, options: &[u8], known: 
     };
     let option = u32::from(options[next]);
     let rest = &options[next + 1..];
-    finds_build(rules, rule, rest, settled.with(option, true))
-        || finds_build(rules, rule, rest, settled.with(option, false))
+    has_leaf(rules, rule, rest, settled.with(option, true))
+        || has_leaf(rules, rule, rest, settled.with(option, false))
 }
 
 // The place of the first option of the list of which nothing is known.
 fn first_unknown(options: &[u8], settled: Assignment) -> Option<usize>
-    ensures { result ≡ position (λ option. not (anything_known settled option)) options.now }
+    ensures { result ≡ position (unknown settled) options.now }
 {
     options
         .iter()
