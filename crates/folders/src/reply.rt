@@ -3,25 +3,25 @@ ghost use Rattle.std.specs.Prelude.{◌≡◌, not, ◌&&◌};
 ghost use Rattle.assignment.specs.Lattice.{join, known_outside, meet, outside, whole, within};
 ghost use Rattle.folders.specs.Entries.{entry_reply, exclude, fits_below, project as project_reply};
 
-use crate::hidden::fits;
+use crate::hidden::list_options;
 use assignment::Assignment;
 use entries::Entry;
-use ruleset::RuleSet;
+use ruleset::{RuleSet, finds_build};
 
 pub(crate) fn reply<R: RuleSet>(below: &mut R, entry: Entry, question: Assignment) -> Assignment
     ensures answer { result ≡ entry_reply entry (R.RuleSet.meaning below.old).reply question }
     ensures same { R.RuleSet.meaning below.new ≡ R.RuleSet.meaning below.old }
 {
     match entry {
-        Entry::Carry { rule } => below.propagate(rule as u32, question),
+        Entry::Carry { rule } => below.propagate(u32::from(rule), question),
         Entry::Product { first, second } => {
-            let one = below.propagate(first as u32, question);
-            let other = below.propagate(second as u32, question);
+            let one = below.propagate(u32::from(first), question);
+            let other = below.propagate(u32::from(second), question);
             one.join(other)
         }
         Entry::Either { first, second } => {
-            let one = below.propagate(first as u32, question);
-            let other = below.propagate(second as u32, question);
+            let one = below.propagate(u32::from(first), question);
+            let other = below.propagate(u32::from(second), question);
             either(one, other)
         }
         Entry::Selection {
@@ -30,11 +30,11 @@ pub(crate) fn reply<R: RuleSet>(below: &mut R, entry: Entry, question: Assignmen
             right,
             width,
         } => {
-            let found = below.propagate(rule as u32, question);
-            found.equate(left as u32, right as u32, width as u32)
+            let found = below.propagate(u32::from(rule), question);
+            found.equate(u32::from(left), u32::from(right), u32::from(width))
         }
-        Entry::Projection { rule, hidden } => project(below, rule as u32, hidden, question),
-        Entry::Complement { rule } => complement(below, rule as u32, question),
+        Entry::Projection { rule, hidden } => project(below, u32::from(rule), hidden, question),
+        Entry::Complement { rule } => complement(below, u32::from(rule), question),
         Entry::None => Assignment::contradiction(),
     }
 }
@@ -63,6 +63,7 @@ fn project<R: RuleSet>(below: &mut R, rule: u32, hidden: u64, question: Assignme
 }
 
 // Whether all shown options are known, and no build below fits them.
+#[tactic(auto, using(crate::proofs::HiddenOptions::hidden_search))]
 fn lacks_build<R: RuleSet>(below: &mut R, rule: u32, hidden: u64, question: Assignment) -> bool
     ensures answer { result ≡ (known_outside hidden question && not (fits_below hidden ((R.RuleSet.meaning below.old).reply rule) question)) }
     ensures same { R.RuleSet.meaning below.new ≡ R.RuleSet.meaning below.old }
@@ -70,7 +71,8 @@ fn lacks_build<R: RuleSet>(below: &mut R, rule: u32, hidden: u64, question: Assi
     if !question.is_known_without(hidden) {
         return false;
     }
-    !fits(below, rule, hidden, question.without(hidden))
+    let options = list_options(hidden);
+    !finds_build(below, rule, &options, question.without(hidden))
 }
 
 // The hidden options as they were asked, all others as they were found.

@@ -1,7 +1,9 @@
--- The options so far stand at the front.
-use Rattle.std.proofs.Common.{◌≡◌, ◌≤◌, take}
+-- The options so far are listed.
+use Rattle.std.proofs.Common.{◌≡◌, ◌≤◌}
+use Rattle.arrayvec.specs.ArrayVec.{array_vec_len}
 use Rattle.assignment.specs.Options.{options_below}
 use Rattle.folders.proofs.hidden.list_options.Given as goal
 
 abbrev pub invariant-loop-option : goal.invariant-loop-option
-invariant-loop-option l = (l.count ≤ l.option) × (take l.count l.list ≡ options_below l.option l.mask)
+invariant-loop-option l =
+    (array_vec_len l.options ≤ l.option) × (l.options.items ≡ options_below l.option l.mask)
