@@ -1,7 +1,7 @@
 -- An entry allows the builds that the table says.
 use Rattle.std.proofs.Common.{◌≡◌, ℕ, ◌+◌, ◌<◌, ◌≤◌, Bool, true, false, cond, not, ◌&&◌, ◌||◌, ◌⊎◌, ◌↔◌, sym, refl, ap, ◌∙◌, subst, inl, inr}
 use mathlib.Core.Bool.{not-not}
-use Rattle.std.proofs.lemmas.Bool.{and_parts, both_ways, cases_lt, cond-false, cond-true, not-true, or_cases, or_right}
+use Rattle.std.proofs.lemmas.Bool.{and_parts, both_ways, cases_lt, cond-false, cond-true, false_from_ne_true, not-true, or_cases, or_right, true_from_ne_false}
 use Rattle.assignment.specs.Knows.{has, knows}
 use Rattle.assignment.specs.Lattice.{contradiction, copied, equate, inconsistent, join, known_outside, meet, outside, Refines, same, Total, whole, within}
 use Rattle.assignment.specs.Laws
@@ -72,11 +72,8 @@ equal_pairs left right width b t = (to, from)
         go (inr l) = Laws.knows_beyond b (right + i) (not v) l
 
     known_by : (o : ℕ) → o < 64 → (v : Bool) → (knows b o (not v) ≡ true → ⊥) → knows b o v ≡ true
-    known_by o h v no_other = go (knows b o v) refl
-      where
-        go : (w : Bool) → knows b o v ≡ w → knows b o v ≡ true
-        go true e = e
-        go false e = absurd (no_other (Laws.total_other b t o h v e))
+    known_by o h v no_other =
+        true_from_ne_false (knows b o v) (λ e. no_other (Laws.total_other b t o h v e))
 
     copy : PairsEqual left right width b → (o : ℕ) → o < 64 → (v : Bool) → (copied right left width b o v ≡ true) ⊎ (copied left right width b o v ≡ true) → knows b o v ≡ true
     copy p o h v (inl k) =
@@ -114,11 +111,10 @@ selection_builds left right width x b t r = (to, from)
 
 agree_refines : (hidden : ℕ) (d b : Assignment) → AgreeOutside hidden d b → Refines d (outside hidden b)
 agree_refines hidden d b agree =
-    Laws.refines_by d (outside hidden b) (λ o h v k. go o h v k (has hidden o) refl)
-  where
-    go : (o : ℕ) → o < 64 → (v : Bool) → knows (outside hidden b) o v ≡ true → (w : Bool) → has hidden o ≡ w → knows d o v ≡ true
-    go o h v k true e = absurd (both_ways (knows (outside hidden b) o v) (Laws.outside_hidden hidden b o v e) k)
-    go o h v k false e = agree o h e v ∙ sym (Laws.outside_shown hidden b o v e) ∙ k
+    Laws.refines_by d (outside hidden b)
+    (λ o h v k.
+    let shown = false_from_ne_true (has hidden o) (λ e. both_ways (knows (outside hidden b) o v) (Laws.outside_hidden hidden b o v e) k) in
+    agree o h shown v ∙ sym (Laws.outside_shown hidden b o v shown) ∙ k)
 
 refines_agree : (hidden : ℕ) (d b : Assignment) → Total d → Total b → Refines d (outside hidden b) → AgreeOutside hidden d b
 refines_agree hidden d b td tb r o h e v = go (knows b o v) refl

@@ -53,6 +53,10 @@ pub reply_at : (es : List Entry) (m : Meaning) (k : ℕ) → k < 64 → (folder 
 reply_at es m k h =
     ap (λ b. cond b (get_or (map (λ e. entry_reply e m.reply) es) k nothing) nothing) (lt-ltb k 64 h) ∙ rule_at es m k
 
+reply_past : (es : List Entry) (m : Meaning) (k : ℕ) → 64 ≤ k → (folder es m).reply k ≡ nothing
+reply_past es m k h =
+    ap (λ b. cond b (get_or (map (λ e. entry_reply e m.reply) es) k nothing) nothing) (le-ltb k 64 h)
+
 -- a draft's entries are few enough for the table to hold at any number
 pub few_reply : (d : Draft) (m : Meaning) (k : ℕ) (a : Assignment) → (folder (drafted d) m).reply k a ≡ entry_reply (get_or (drafted d) k None) m.reply a
 few_reply d m k a = go (cases_lt k 64)
@@ -60,7 +64,7 @@ few_reply d m k a = go (cases_lt k 64)
     go : (k < 64) ⊎ (64 ≤ k) → (folder (drafted d) m).reply k a ≡ entry_reply (get_or (drafted d) k None) m.reply a
     go (inl h) = ap (λ f. f a) (reply_at (drafted d) m k h)
     go (inr h) =
-        ap (λ c. cond c (get_or (map (λ e. entry_reply e m.reply) (drafted d)) k nothing) nothing a) (le-ltb k 64 h)
+        ap (λ f. f a) (reply_past (drafted d) m k h)
         ∙ sym (ap (λ e. entry_reply e m.reply a)
         (get_or_past (drafted d) k None (omega (arith, d.entries.ok.0, d.few))))
 
@@ -77,8 +81,7 @@ folder_builds es few m l A s k b t = go (cases_lt k 64)
         let alike = entry_alike (get_or es k None) (Allows m) A s b t in
         (λ x. alike.0 (here.0 (sym e ∙ x)), λ x. e ∙ here.1 (alike.1 x))
     go (inr h) =
-        let gone : (folder es m).reply k b ≡ contradiction =
-        ap (λ c. cond c (get_or (map (λ e. entry_reply e m.reply) es) k nothing) nothing b) (le-ltb k 64 h) in
+        let gone : (folder es m).reply k b ≡ contradiction = ap (λ f. f b) (reply_past es m k h) in
         let none : get_or es k None ≡ None = get_or_past es k None (omega arith) in
         (λ x. absurd (not_dead b t (sym gone ∙ x)), λ x. absurd (subst (λ e. entry_allows e A b) none x))
 
