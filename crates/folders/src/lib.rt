@@ -1,5 +1,5 @@
 // Folders: sets of rules made of the rules just below, one over the other to any height. Uses `assignment`, `refusals`,
-// `entries` and `ruleset`.
+// `entries`, `ruleset` and the kit's `arrayvec`.
 #![tactic(auto)]
 
 mod folder;
