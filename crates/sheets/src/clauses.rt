@@ -1,11 +1,12 @@
 // A clause sheet: clauses, each a list of options wanted yes or no.
 ghost use Rattle.std.specs.Prelude.{◌≡◌, ◌<◌, [], ◌∷◌, length, drop, MatchOption};
-ghost use Rattle.refusals.specs.Checks.{judged, seen, when};
+ghost use Rattle.refusals.specs.Checks.{judged, when};
 ghost use Rattle.refusals.specs.declared.refusal.Refusal.TheVariants.{Unfit};
 ghost use Rattle.ruleformat.specs.Records.{at};
 ghost use Rattle.ruleformat.specs.Clauses.{clause_checks, clause_pieces, clause_size, clauses_checks, unfit_clauses, wanted_bytes, wanted_checks};
 ghost use Rattle.sheets.specs.Views.{clause_body};
 
+use crate::sheet::{Sheet, SheetBody};
 use crate::walk::Clauses;
 use refusals::{RecordFault, Refusal, SheetFault};
 
@@ -19,16 +20,21 @@ pub struct ClauseSheet<'a> {
     body: &'a [u8],
 }
 
-impl<'a> ClauseSheet<'a> {
-    /// The sheet that a body holds, with so many options, or why it is refused; `place` is that of its record.
-    pub fn read(body: &'a [u8], place: usize, options: u32) -> Result<ClauseSheet<'a>, SheetFault>
-        ensures { seen clause_body result ≡ judged (clauses_checks options place body.now) body.now }
-    {
+impl SheetBody for ClauseSheet<'_> {
+    ghost body_of = { clause_body };
+}
+
+impl<'a> Sheet<'a> for ClauseSheet<'a> {
+    ghost checks = { clauses_checks };
+
+    fn read(body: &'a [u8], place: usize, options: u32) -> Result<ClauseSheet<'a>, SheetFault> {
         check_shape(body, place)?;
         check_clauses(body, place, options)?;
         Ok(ClauseSheet { body })
     }
+}
 
+impl<'a> ClauseSheet<'a> {
     /// The clauses, from the first on.
     pub fn clauses(&self) -> Clauses<'a>
         ensures { result.rest.now ≡ clause_body self.now }

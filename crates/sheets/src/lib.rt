@@ -3,9 +3,11 @@
 #![tactic(auto)]
 
 mod clauses;
+mod sheet;
 mod table;
 mod walk;
 
 pub use clauses::ClauseSheet;
+pub use sheet::{Sheet, SheetBody};
 pub use table::TableSheet;
 pub use walk::{Clause, Clauses, Rows, Wanted};

@@ -1,11 +1,12 @@
 // A table sheet: some options as columns, and rows that say yes or no to each.
 ghost use Rattle.std.specs.Prelude.{◌≡◌, ◌+◌, ◌%◌, min, [], ◌∷◌, length};
-ghost use Rattle.refusals.specs.Checks.{judged, seen, when};
+ghost use Rattle.refusals.specs.Checks.{judged, when};
 ghost use Rattle.refusals.specs.declared.refusal.Refusal.TheVariants.{Unfit};
 ghost use Rattle.ruleformat.specs.Records.{at};
 ghost use Rattle.ruleformat.specs.Tables.{column_checks, columns_of, row_checks, rows_in, rows_of, table_checks, unfit_table, width as width_of};
 ghost use Rattle.sheets.specs.Views.{table_body};
 
+use crate::sheet::{Sheet, SheetBody};
 use crate::walk::Rows;
 use assignment::has_bit_from;
 use refusals::{RecordFault, Refusal, SheetFault};
@@ -20,17 +21,22 @@ pub struct TableSheet<'a> {
     body: &'a [u8],
 }
 
-impl<'a> TableSheet<'a> {
-    /// The sheet that a body holds, with so many options, or why it is refused; `place` is that of its record.
-    pub fn read(body: &'a [u8], place: usize, options: u32) -> Result<TableSheet<'a>, SheetFault>
-        ensures { seen table_body result ≡ judged (table_checks options place body.now) body.now }
-    {
+impl SheetBody for TableSheet<'_> {
+    ghost body_of = { table_body };
+}
+
+impl<'a> Sheet<'a> for TableSheet<'a> {
+    ghost checks = { table_checks };
+
+    fn read(body: &'a [u8], place: usize, options: u32) -> Result<TableSheet<'a>, SheetFault> {
         let columns = count_columns(body, place)?;
         check_columns(&body[1..1 + columns], place, options)?;
         check_rows(&body[1 + columns..], columns as u32, place)?;
         Ok(TableSheet { body })
     }
+}
 
+impl<'a> TableSheet<'a> {
     /// The columns, which are options.
     pub fn columns(&self) -> &'a [u8]
         ensures { result.now ≡ columns_of (table_body self.now) }

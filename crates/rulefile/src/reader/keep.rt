@@ -14,7 +14,7 @@ use super::Reader;
 use crate::folder::read_folder;
 use crate::start::read_start;
 use refusals::{FileFault, RecordFault, Refusal};
-use sheets::{ClauseSheet, TableSheet};
+use sheets::{ClauseSheet, Sheet, TableSheet};
 
 impl<'a> Reader<'a> {
     // The number of options and what is known of them from the outset.

@@ -6,7 +6,7 @@ use Rattle.refusals.specs.declared.refusal.Refusal.TheVariants.{Unfit}
 use Rattle.refusals.proofs.Judged.{judged_err, judged_head, judged_ok}
 use Rattle.ruleformat.specs.Clauses.{clause_checks, clause_pieces, unfit_clauses}
 use Rattle.ruleformat.specs.Records.{at}
-use Rattle.sheets.proofs.clauses.ClauseSheet.read.Goals as goal
+use Rattle.sheets.proofs.clauses.ClauseSheetSheet.read.Goals as goal
 
 pub returns-in_err-check_clauses : goal.returns-in_err-check_clauses
 returns-in_err-check_clauses c =

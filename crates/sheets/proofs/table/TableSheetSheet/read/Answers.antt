@@ -8,7 +8,7 @@ use Rattle.refusals.specs.declared.refusal.Refusal.TheVariants.{Unfit}
 use Rattle.refusals.proofs.Judged.{judged_err, judged_head, judged_ok, judged_passes, judged_stops, judged_value}
 use Rattle.ruleformat.specs.Tables.{column_checks, columns_of, row_checks, rows_in, rows_of, table_checks, unfit_table, width}
 use Rattle.ruleformat.specs.Records.{at}
-use Rattle.sheets.proofs.table.TableSheet.read.Goals as goal
+use Rattle.sheets.proofs.table.TableSheetSheet.read.Goals as goal
 
 -- k is the number of columns, as it was counted
 module _ (n place k : ℕ) (body : List ℕ) (counted : judged (when (unfit_table body) (at Unfit place) ∷ []) (width body) ≡ Ok k) where
