@@ -5,28 +5,31 @@ use Rattle.rulefile.specs.Held.{contents_of}
 use Rattle.rulefile.specs.declared.file.RuleFile.{RuleFile}
 use Rattle.ruleset.specs.Meaning.{Meaning}
 use Rattle.ruleset.specs.SideBySide.{side_by_side}
-use Rattle.ruleset.specs.declared.side_by_side.SideBySide.{SideBySide}
 use Rattle.sheet_rules.specs.ClauseReply.{clauses_reply}
-use Rattle.sheet_rules.specs.RuleSets.{rules_of_clauses, clauses_held, clauses_in, table_in, rules_of_tables, tables_held}
+use Rattle.sheet_rules.specs.RuleSets.{clauses_in, clauses_mean_held, rules_of_clauses, rules_of_tables, table_in, tables_mean_held}
 use Rattle.sheet_rules.specs.TableReply.{table_reply}
-use Rattle.sheet_rules.specs.declared.clauses.ClauseSheets.{ClauseSheets}
-use Rattle.sheet_rules.specs.declared.tables.TableSheets.{TableSheets}
+use Rattle.sheet_rules.specs.SheetsHeld.{sheets_held}
+use Rattle.sheet_rules.specs.declared.rules.SheetRules.{SheetRules}
+use Rattle.sheets.specs.declared.clauses.ClauseSheet.{ClauseSheet}
+use Rattle.sheets.specs.declared.table.TableSheet.{TableSheet}
 use Rattle.rulestack.specs.FileRules.{sheet_rules}
-use Rattle.rulestack.specs.Nested.{sheets_mean}
+use Rattle.rulestack.specs.Nested.{Sheets, sheets_mean}
 
 -- made of these tables and clause sheets
-pub record Beside (f : RuleFile) (s : SideBySide TableSheets ClauseSheets) : Type 0 where
-  pub tables : tables_held s.first ≡ map table_in (vec_items f.tables)
-  pub clauses : clauses_held s.second ≡ map clauses_in (vec_items f.clauses)
+pub record Beside (f : RuleFile) (s : Sheets) : Type 0 where
+  pub tables : sheets_held s.first ≡ vec_items f.tables
+  pub clauses : sheets_held s.second ≡ vec_items f.clauses
 
-pub beside : {s : SideBySide TableSheets ClauseSheets} {ts : TableSheets} {cs : ClauseSheets} (f : RuleFile) → s.first ≡ ts → s.second ≡ cs → tables_held ts ≡ map table_in (vec_items f.tables) → clauses_held cs ≡ map clauses_in (vec_items f.clauses) → Beside f s
+pub beside : {s : Sheets} {ts : SheetRules TableSheet} {cs : SheetRules ClauseSheet} (f : RuleFile) → s.first ≡ ts → s.second ≡ cs → sheets_held ts ≡ vec_items f.tables → sheets_held cs ≡ vec_items f.clauses → Beside f s
 beside f first second ts cs =
-    record { tables = ap tables_held first ∙ ts; clauses = ap clauses_held second ∙ cs }
+    record { tables = ap sheets_held first ∙ ts; clauses = ap sheets_held second ∙ cs }
 
-pub sheets_are : (f : RuleFile) (s : SideBySide TableSheets ClauseSheets) → Beside f s → sheets_mean s ≡ sheet_rules (contents_of f)
-sheets_are f s h = ap₂ (λ ts ss. side_by_side (rules_of_tables ts) (rules_of_clauses ss)) h.tables h.clauses
+pub sheets_are : (f : RuleFile) (s : Sheets) → Beside f s → sheets_mean s ≡ sheet_rules (contents_of f)
+sheets_are f s h =
+    ap₂ side_by_side (tables_mean_held s.first) (clauses_mean_held s.second)
+    ∙ ap₂ (λ ts cs. side_by_side (rules_of_tables (map table_in ts)) (rules_of_clauses (map clauses_in cs))) h.tables h.clauses
 
-pub few_sheets : (f : RuleFile) (s : SideBySide TableSheets ClauseSheets) → Beside f s → (sheets_mean s).count ≤ 32
+pub few_sheets : (f : RuleFile) (s : Sheets) → Beside f s → (sheets_mean s).count ≤ 32
 few_sheets f s h =
     subst (λ (m : Meaning). m.count ≤ 32) (sym (sheets_are f s h))
     (omega (

@@ -7,18 +7,23 @@ use Rattle.folders.specs.declared.folder.Folder.{Folder}
 use Rattle.ruleset.specs.Meaning.{Meaning}
 use Rattle.ruleset.specs.SideBySide.{side_by_side}
 use Rattle.ruleset.specs.declared.side_by_side.SideBySide.{SideBySide}
-use Rattle.sheet_rules.specs.RuleSets.{rules_of_clauses, clauses_held, rules_of_tables, tables_held}
-use Rattle.sheet_rules.specs.declared.clauses.ClauseSheets.{ClauseSheets}
-use Rattle.sheet_rules.specs.declared.tables.TableSheets.{TableSheets}
+use Rattle.sheet_rules.specs.RuleSets.{clauses_mean, tables_mean}
+use Rattle.sheet_rules.specs.declared.rules.SheetRules.{SheetRules}
+use Rattle.sheets.specs.declared.clauses.ClauseSheet.{ClauseSheet}
+use Rattle.sheets.specs.declared.table.TableSheet.{TableSheet}
 
-abbrev pub sheets_mean : SideBySide TableSheets ClauseSheets → Meaning
-sheets_mean s = side_by_side (rules_of_tables (tables_held s.first)) (rules_of_clauses (clauses_held s.second))
+-- tables beside clause sheets
+abbrev pub Sheets : Type 0
+Sheets = SideBySide (SheetRules TableSheet) (SheetRules ClauseSheet)
+
+abbrev pub sheets_mean : Sheets → Meaning
+sheets_mean s = side_by_side (tables_mean s.first) (clauses_mean s.second)
 
 -- a folder over something whose meaning is known
 abbrev pub over : {R : Type 0} → (R → Meaning) → Folder R → Meaning
 over below f = folder (drafted f.draft) (below f.below)
 
-abbrev pub stack_means : Folder (Folder (Folder (Folder (SideBySide TableSheets ClauseSheets)))) → Meaning
+abbrev pub stack_means : Folder (Folder (Folder (Folder Sheets))) → Meaning
 stack_means f = over (over (over (over sheets_mean))) f
 
 -- a draft laid on rules, or where there is none the rules as they are

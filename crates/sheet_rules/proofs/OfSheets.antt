@@ -6,12 +6,12 @@ use Rattle.assignment.specs.Lattice.{contradiction}
 use Rattle.assignment.specs.declared.assignment.Assignment.{Assignment}
 use Rattle.ruleset.specs.Listed.{listed, nothing, Rule}
 
+pub counted : {X Y : Type 0} (reply : Y → Rule) (view : X → Y) (xs : List X) → length (map reply (map view xs)) ≡ length xs
+counted reply view xs = length-map (map view xs) reply ∙ length-map xs view
+
 module _ {X Y : Type 0} (reply : Y → Rule) (view : X → Y) (xs : List X) (k : ℕ) (few : k < 64) (a : Assignment) where
   numbered : (listed (map reply (map view xs))).reply k a ≡ get_or (map reply (map view xs)) k nothing a
   numbered = ap (λ b. cond b (get_or (map reply (map view xs)) k nothing) nothing a) (lt-ltb k 64 few)
-
-  counted : length (map reply (map view xs)) ≡ length xs
-  counted = length-map (map view xs) reply ∙ length-map xs view
 
   pub sheet_replies : (x : X) → k < length xs → x ≡ get_or xs k x → reply (view x) a ≡ (listed (map reply (map view xs))).reply k a
   sheet_replies x there e =
@@ -21,5 +21,5 @@ module _ {X Y : Type 0} (reply : Y → Rule) (view : X → Y) (xs : List X) (k :
 
   pub no_sheet_replies : length xs ≤ k → contradiction ≡ (listed (map reply (map view xs))).reply k a
   no_sheet_replies past =
-      sym (ap (λ f. f a) (get_or_past (map reply (map view xs)) k nothing (subst (λ n. n ≤ k) (sym counted) past)))
+      sym (ap (λ f. f a) (get_or_past (map reply (map view xs)) k nothing (subst (λ n. n ≤ k) (sym (counted reply view xs)) past)))
       ∙ sym numbered

@@ -5,6 +5,8 @@ pub mod Gathered
 pub mod Laws
 pub mod Lost
 pub mod Marks
+pub mod Replies
 pub mod RuleSets
 pub mod Shared
+pub mod SheetsHeld
 pub mod TableReply

@@ -1,30 +1,33 @@
 // The rule of one clause sheet.
 ghost use Rattle.std.specs.Prelude.{◌≡◌, [], ◌∷◌, map, MatchOption};
 ghost use Rattle.assignment.specs.Lattice.{unknown as nothing_known};
-ghost use Rattle.ruleformat.specs.Clauses.{wanted_of};
+ghost use Rattle.ruleformat.specs.Clauses.{clauses_of, wanted_of};
 ghost use Rattle.sheets.specs.Views.{wanted_view};
-ghost use Rattle.sheet_rules.specs.ClauseReply.{added_by_clause as added_by, clauses_reply};
+ghost use Rattle.sheet_rules.specs.ClauseReply.{added_by_clause as added_by, clauses_lawful, clauses_reply};
 ghost use Rattle.sheet_rules.specs.Lost.{left};
-ghost use Rattle.sheet_rules.specs.RuleSets.{clauses_in};
 
+use crate::rule::SheetRule;
 use assignment::Assignment;
 use sheets::{Clause, ClauseSheet, Wanted};
 
-// What the rule makes of a question.
-pub(crate) fn reply_of_clauses(sheet: &ClauseSheet, question: Assignment) -> Assignment
-    ensures { result ≡ clauses_reply (clauses_in sheet.now) question }
-{
-    if question.is_inconsistent() {
-        return Assignment::contradiction();
-    }
-    let mut reply = question;
-    for clause in sheet.clauses() {
-        let Some(added) = clause_adds(clause, question) else {
+impl SheetRule for ClauseSheet<'_> {
+    ghost rule_of = { λ body. clauses_reply (clauses_of body) };
+
+    ghost keeps_promises = { λ body. clauses_lawful (clauses_of body) };
+
+    fn reply(&self, question: Assignment) -> Assignment {
+        if question.is_inconsistent() {
             return Assignment::contradiction();
-        };
-        reply = reply.join(added);
+        }
+        let mut reply = question;
+        for clause in self.clauses() {
+            let Some(added) = clause_adds(clause, question) else {
+                return Assignment::contradiction();
+            };
+            reply = reply.join(added);
+        }
+        reply
     }
-    reply
 }
 
 // What a clause adds: its value where only one is left. Where none is left there is no answer.

@@ -2,14 +2,13 @@
 #![tactic(auto)]
 
 mod clause;
-mod clauses;
 mod common;
-mod count;
 mod known;
 mod laws;
+mod rule;
+mod rules;
 mod table;
-mod tables;
 
-pub use clauses::ClauseSheets;
 pub use laws::sheet_laws;
-pub use tables::TableSheets;
+pub use rule::SheetRule;
+pub use rules::{ClauseSheets, SheetRules, TableSheets};

@@ -1,28 +1,31 @@
 // The rule of one table sheet.
 ghost use Rattle.std.specs.Prelude.{◌≡◌, if◌then◌else◌, Some, None};
-ghost use Rattle.ruleformat.specs.Tables.{columns_of, rows_of};
+ghost use Rattle.ruleformat.specs.Tables.{columns_of, rows_of, table_of};
 ghost use Rattle.sheets.specs.Views.{table_body};
 ghost use Rattle.sheet_rules.specs.Agreement.{agreeing};
 ghost use Rattle.sheet_rules.specs.Gathered.{gathered, with_row};
 ghost use Rattle.sheet_rules.specs.Marks.{fits};
-ghost use Rattle.sheet_rules.specs.RuleSets.{table_in};
-ghost use Rattle.sheet_rules.specs.TableReply.{table_reply};
+ghost use Rattle.sheet_rules.specs.TableReply.{table_lawful, table_reply};
 
 use crate::common::Common;
 use crate::known::Known;
+use crate::rule::SheetRule;
 use assignment::Assignment;
 use sheets::TableSheet;
 
-// What the rule makes of a question.
-pub(crate) fn reply_of_table(sheet: &TableSheet, question: Assignment) -> Assignment
-    ensures { result ≡ table_reply (table_in sheet.now) question }
-{
-    if question.is_inconsistent() {
-        return Assignment::contradiction();
-    }
-    match gather(sheet, question) {
-        None => Assignment::contradiction(),
-        Some(common) => common.add_to(sheet.columns(), question),
+impl SheetRule for TableSheet<'_> {
+    ghost rule_of = { λ body. table_reply (table_of body) };
+
+    ghost keeps_promises = { λ body. table_lawful (table_of body) };
+
+    fn reply(&self, question: Assignment) -> Assignment {
+        if question.is_inconsistent() {
+            return Assignment::contradiction();
+        }
+        match gather(self, question) {
+            None => Assignment::contradiction(),
+            Some(common) => common.add_to(self.columns(), question),
+        }
     }
 }
 

@@ -3,7 +3,6 @@ use Rattle.std.proofs.Common.{◌≡◌, ◌∷◌, map, length, vec_items, vec_
 use Rattle.std.specs.Vec.Iter.{into_iter_items, into_iter_len}
 use Rattle.entries.specs.Drafts.{drafted}
 use Rattle.folders.specs.Folders.{stack}
-use Rattle.sheet_rules.specs.RuleSets.{clauses_in, table_in}
 use Rattle.rulestack.specs.Nested.{laid, over, sheets_mean}
 use Rattle.rulestack.proofs.Layers.{few_rules, four_laid, one_less}
 use Rattle.rulestack.proofs.SheetsHeld.{beside, few_sheets, sheets_are}
@@ -14,8 +13,8 @@ lay-one-requires c =
     let parts = c.into_parts-options.ensures in
     few_sheets c.args.file c.new-sheets.result
     (beside c.args.file c.new-sheets.ensures.first c.new-sheets.ensures.second
-    (c.new.ensures ∙ ap (λ v. map table_in (vec_items v)) parts.tables)
-    (c.new-2.ensures ∙ ap (λ v. map clauses_in (vec_items v)) parts.clauses))
+    (c.new.ensures ∙ ap (λ v. vec_items v) parts.tables)
+    (c.new-2.ensures ∙ ap (λ v. vec_items v) parts.clauses))
 
 pub lay-two-requires : goal.lay-two-requires
 lay-two-requires c = few_rules c.lay-one.result.draft (sheets_mean c.lay-one.result.below)
@@ -61,5 +60,5 @@ returns c =
     ∙ ap (λ ds. stack (map drafted ds) m) drafts
     ∙ ap (stack (map drafted (vec_items file.folders))) (sheets_are file c.new-sheets.result
     (beside file c.new-sheets.ensures.first c.new-sheets.ensures.second
-    (c.new.ensures ∙ ap (λ v. map table_in (vec_items v)) parts.tables)
-    (c.new-2.ensures ∙ ap (λ v. map clauses_in (vec_items v)) parts.clauses)))
+    (c.new.ensures ∙ ap (λ v. vec_items v) parts.tables)
+    (c.new-2.ensures ∙ ap (λ v. vec_items v) parts.clauses)))

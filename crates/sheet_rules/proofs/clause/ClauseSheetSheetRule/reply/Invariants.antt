@@ -2,7 +2,7 @@
 use Rattle.std.proofs.Common.{◌≡◌}
 use Rattle.ruleformat.specs.Clauses.{clauses_of}
 use Rattle.sheet_rules.specs.ClauseReply.{add_clauses}
-use Rattle.sheet_rules.proofs.clause.reply_of_clauses.Given as goal
+use Rattle.sheet_rules.proofs.clause.ClauseSheetSheetRule.reply.Given as goal
 
 abbrev pub invariant-loop-clause : goal.invariant-loop-clause
 invariant-loop-clause l =

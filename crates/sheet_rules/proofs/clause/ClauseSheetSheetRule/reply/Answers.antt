@@ -10,7 +10,7 @@ use Rattle.sheet_rules.specs.ClauseReply.{add_clauses, add_clauses_above, added_
 use Rattle.sheet_rules.specs.Lost.{left}
 use Rattle.sheet_rules.specs.RuleSets.{clauses_in}
 use Rattle.sheet_rules.proofs.ClausesAdd.{consistent_reply}
-use Rattle.sheet_rules.proofs.clause.reply_of_clauses.Goals as goal
+use Rattle.sheet_rules.proofs.clause.ClauseSheetSheetRule.reply.Goals as goal
 
 none_left : (asked : Assignment) (ws : List Wanted) (cs : List (List Wanted)) (a : Assignment) → left asked ws ≡ [] → add_clauses asked (ws ∷ cs) a ≡ contradiction
 unfolding add_clauses
@@ -23,7 +23,7 @@ pub returns-then-is_inconsistent : goal.returns-then-is_inconsistent
 unfolding clauses_reply
 returns-then-is_inconsistent c =
     let question = c.args.question in
-    let other = add_clauses question (clauses_in c.args.sheet.now) question in
+    let other = add_clauses question (clauses_in c.args.self.now) question in
     c.contradiction.ensures.answer
     ∙ sym (cond-true (inconsistent question) contradiction other (sym c.if-is_inconsistent.ensures.answer))
 
@@ -37,7 +37,7 @@ returns-in_default c =
     c.contradiction-in_default.ensures.answer ∙ sym (none_left question clause rest reply c.in_default.ensures)
     ∙ sym (ap (λ cs. add_clauses question cs reply) c.in-Some.ensures.steps) ∙ c.loop-clause.invariant.2
     ∙ ap (λ body. add_clauses question (clauses_of body) question) all
-    ∙ sym (consistent_reply (clauses_in c.args.sheet.now) question (sym c.if-is_inconsistent.ensures.answer))
+    ∙ sym (consistent_reply (clauses_in c.args.self.now) question (sym c.if-is_inconsistent.ensures.answer))
 
 pub loop-clause-preserved : goal.loop-clause-preserved
 unfolding add_clauses
@@ -59,4 +59,4 @@ returns c =
     let all = ap (λ it. it.rest.now) c.into_iter-clause-iterator.ensures.into_iter_gives ∙ c.clauses-clause-items.ensures in
     sym (ap (λ cs. add_clauses question cs c.loop-clause.reply) c.in-None.ensures.steps.0)
     ∙ c.loop-clause.invariant.2 ∙ ap (λ body. add_clauses question (clauses_of body) question) all
-    ∙ sym (consistent_reply (clauses_in c.args.sheet.now) question (sym c.if-is_inconsistent.ensures.answer))
+    ∙ sym (consistent_reply (clauses_in c.args.self.now) question (sym c.if-is_inconsistent.ensures.answer))
