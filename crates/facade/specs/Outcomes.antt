@@ -1,5 +1,5 @@
 -- What a call comes to.
-use Rattle.std.specs.Prelude.{◌≡◌, ℕ, Bool, true, false, ◌⊎◌, List, ◌∷◌, is_ok, ◌==◌, nat_lt}
+use Rattle.std.specs.Prelude.{◌≡◌, ℕ, Bool, true, false, ◌⊎◌, List, ◌∷◌, is_ok, Ok, Err, Result, MatchResult, ◌==◌, nat_lt}
 use Rattle.entries.specs.Fields.{entry_checks}
 use Rattle.entries.specs.declared.entry.Entry.TheVariants.{Projection}
 use Rattle.refusals.specs.Checks.{Check, judged, when}
@@ -21,12 +21,20 @@ hides options hidden =
     (when (options == 0) OutOfRange ∷ when (nat_lt 64 options) OutOfRange
     ∷ entry_checks options 1 (fields_for (Projection 0 hidden)))
 
-abbrev pub code_of : Failure → ℕ
-code_of Refused = 1
-code_of NoMemory = 2
+-- the number that a call returns
+abbrev pub code_of : Result (Unit {0}) Failure → ℕ
+code_of (Ok done) = 0
+code_of (Err Refused) = 1
+code_of (Err NoMemory) = 2
 
--- The number that a call returns and the masks that it leaves: all questions are answered where what it was given is
--- good, and else none; nor is any where there is no memory.
+-- What answering comes to, and the masks that it leaves: all questions are answered where what it was given is good, and
+-- else none; nor is any where there is no memory.
+abbrev pub Answered : (good : Bool) → Rule → (before : List ℕ) → Result (Unit {0}) Failure → (after : List ℕ) → Type 0
+Answered good f before result after =
+    MatchResult result (λ done. (good ≡ true) × (after ≡ answered f before))
+    (λ failure. (failure ≡ Refused → good ≡ false) × (after ≡ before))
+
+-- the same with the number that the call returns
 abbrev pub Outcome : (good : Bool) → Rule → (before : List ℕ) → (returned : ℕ) → (after : List ℕ) → Type 0
 Outcome good f before returned after =
     ((returned ≡ 0) × (good ≡ true) × (after ≡ answered f before))

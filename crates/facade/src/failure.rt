@@ -1,9 +1,12 @@
-// Why no question is answered, and the number that says so to a caller.
+// Why no question is answered, and the number that says what a call came to.
 ghost use Rattle.std.specs.Prelude.{◌≡◌};
 ghost use Rattle.facade.specs.Outcomes.{code_of};
+ghost use Rattle.facade.specs.declared.failure.Failure.TheVariants.{Refused, NoMemory};
 
-// The number of a call that answered all its questions.
-pub(crate) const ANSWERED: u32 = 0;
+use refusals::{Refusal, SheetFault};
+use std::alloc::AllocError;
+
+const ANSWERED: u32 = 0;
 
 const REFUSED: u32 = 1;
 
@@ -16,13 +19,37 @@ pub(crate) enum Failure {
     NoMemory,
 }
 
-impl Failure {
-    pub(crate) fn code(self) -> u32
-        ensures { result ≡ code_of self }
-    {
-        match self {
-            Failure::Refused => REFUSED,
-            Failure::NoMemory => NO_MEMORY,
-        }
+impl From<SheetFault> for Failure {
+    ghost from_gives = { λ x r. r ≡ Refused };
+
+    fn from(_fault: SheetFault) -> Failure {
+        Failure::Refused
+    }
+}
+
+impl From<Refusal> for Failure {
+    ghost from_gives = { λ x r. r ≡ Refused };
+
+    fn from(_refusal: Refusal) -> Failure {
+        Failure::Refused
+    }
+}
+
+impl From<AllocError> for Failure {
+    ghost from_gives = { λ x r. r ≡ NoMemory };
+
+    fn from(_error: AllocError) -> Failure {
+        Failure::NoMemory
+    }
+}
+
+// The number that a call returns.
+pub(crate) fn code(answered: Result<(), Failure>) -> u32
+    ensures { result ≡ code_of answered }
+{
+    match answered {
+        Ok(()) => ANSWERED,
+        Err(Failure::Refused) => REFUSED,
+        Err(Failure::NoMemory) => NO_MEMORY,
     }
 }

@@ -6,6 +6,7 @@ mod asking;
 mod clauses;
 mod failure;
 mod hiding;
+mod sheet;
 mod tables;
 
 pub use clauses::{answer_clauses, answer_clauses_hiding};

@@ -1,5 +1,6 @@
 -- The draft has no entry yet, so its checks are those of the projection alone.
 use Rattle.std.proofs.Common.{◌≡◌, ℕ, [], ◌∷◌, ◌++◌, length, vec_items, vec_len, sym, ap, ◌∙◌}
+use Rattle.std.proofs.lemmas.Result.{err_from_is_err_and}
 use Rattle.entries.specs.Drafts.{draft_checks}
 use Rattle.entries.specs.declared.draft.Draft.{Draft}
 use Rattle.entries.specs.declared.entry.Entry.TheVariants.{Projection}
@@ -15,21 +16,22 @@ same_checks d options hidden e f g =
     let none : vec_len d.entries ≡ 0 = d.entries.ok.0 ∙ ap length g in
     rw (e, f, none)
 
-pub returns-in-Ok-add : goal.returns-in-Ok-add
-returns-in-Ok-add c =
+pub returns-in_err-add : goal.returns-in_err-add
+returns-in_err-add c =
     let d = c.new-draft.result in
     let made = c.new-draft.ensures in
     let checks = draft_checks d (fields_for (Projection 0 c.args.hidden)) in
     let same = same_checks d c.args.options c.args.hidden made.options made.below made.entries in
-    let told = c.in-Ok-add.ensures in (
-      sym same ∙ passes_ok checks (tt {0}) c.in-Ok-add.field-0 (sym told.answer),
+    let p = err_from_is_err_and c.from_residual-in_err-add.result c.from_residual-in_err-add.ensures.1 in
+    rw p.1 (λ _. sym same ∙ passes_err checks (tt {0}) c.in_err-add.field-0.0 (sym c.in_err-add.ensures.answer))
+
+pub returns : goal.returns
+returns c =
+    let d = c.new-draft.result in
+    let made = c.new-draft.ensures in
+    let checks = draft_checks d (fields_for (Projection 0 c.args.hidden)) in
+    let same = same_checks d c.args.options c.args.hidden made.options made.below made.entries in
+    let told = c.in_ok-add.ensures in (
+      sym same ∙ passes_ok checks (tt {0}) c.in_ok-add.field-0 (sym told.answer),
       told.entries ∙ ap (λ l. l ++ Projection 0 c.args.hidden ∷ []) made.entries,
     )
-
-pub returns-in-Err : goal.returns-in-Err
-returns-in-Err c =
-    let d = c.new-draft.result in
-    let made = c.new-draft.ensures in
-    let checks = draft_checks d (fields_for (Projection 0 c.args.hidden)) in
-    let same = same_checks d c.args.options c.args.hidden made.options made.below made.entries in
-    λ _. sym same ∙ passes_err checks (tt {0}) c.in-Err.field-0 (sym c.in-Err.ensures.answer)
