@@ -1,16 +1,16 @@
 // A clause sheet: clauses, each a list of options wanted yes or no.
-ghost use Rattle.std.specs.Prelude.{◌≡◌, ◌<◌, [], ◌∷◌, length, drop, MatchOption};
+ghost use Rattle.std.specs.Prelude.{◌≡◌, [], ◌∷◌};
 ghost use Rattle.refusals.specs.Checks.{judged, when};
 ghost use Rattle.refusals.specs.declared.refusal.Refusal.TheVariants.{Unfit};
 ghost use Rattle.ruleformat.specs.Records.{at};
-ghost use Rattle.ruleformat.specs.Clauses.{clause_checks, clause_pieces, clause_size, clauses_checks, unfit_clauses, wanted_bytes, wanted_checks};
+ghost use Rattle.ruleformat.specs.Clauses.{clause_checks, clause_pieces, clauses_checks, unfit_clauses, wanted_checks};
 ghost use Rattle.sheets.specs.Views.{clause_body};
 
+use crate::checks::check_option;
+use crate::counted::split_whole;
 use crate::sheet::{Sheet, SheetBody};
 use crate::walk::Clauses;
 use refusals::{RecordFault, Refusal, SheetFault};
-
-const MAX_WANTED: usize = 16;
 
 const MAX_CLAUSES: usize = 256;
 
@@ -52,16 +52,16 @@ fn check_shape(body: &[u8], place: usize) -> Result<(), RecordFault>
         place,
     };
     let mut rest = body;
-    let mut clauses = 0usize;
-    while !rest.is_empty() {
-        let wanted = rest[0] as usize;
-        if wanted == 0 || wanted > MAX_WANTED || rest.len() < 1 + wanted {
-            return Err(unfit);
+    for _ in 0..MAX_CLAUSES {
+        if rest.is_empty() {
+            return Ok(());
         }
-        rest = &rest[1 + wanted..];
-        clauses += 1;
+        let Some((_, next)) = split_whole(rest) else {
+            return Err(unfit);
+        };
+        rest = next;
     }
-    if clauses > MAX_CLAUSES {
+    if !rest.is_empty() {
         return Err(unfit);
     }
     Ok(())
@@ -71,55 +71,28 @@ fn check_shape(body: &[u8], place: usize) -> Result<(), RecordFault>
 fn check_clauses(body: &[u8], place: usize, options: u32) -> Result<(), SheetFault>
     ensures { result ≡ judged (clause_checks options place 0 (clause_pieces body.now)) tt }
 {
-    let mut rest = body;
-    let mut item = 0;
-    while let Some((wanted, next)) = split_clause(rest) {
-        check_wanted(wanted, place, item, options)?;
-        rest = next;
-        item += 1;
+    for (item, clause) in (Clauses { rest: body }).enumerate() {
+        check_wanted(clause.rest, place, item, options)?;
     }
     Ok(())
-}
-
-// The bytes of the first clause's wanted values, and what follows the clause.
-pub(crate) fn split_clause(rest: &[u8]) -> Option<(&[u8], &[u8])>
-    ensures { MatchOption result (rest.now ≡ []) (λ p. (0 < length rest.now) × (p.0.now ≡ wanted_bytes rest.now) × (p.1.now ≡ drop (clause_size rest.now) rest.now)) }
-{
-    if rest.is_empty() {
-        return None;
-    }
-    let end = rest.len().min(1 + rest[0] as usize);
-    Some((&rest[1..end], &rest[end..]))
 }
 
 // Each wanted value names an option, above the one before it.
 fn check_wanted(wanted: &[u8], place: usize, item: usize, options: u32) -> Result<(), SheetFault>
     ensures { result ≡ judged (wanted_checks options place item 0 wanted.now) tt }
 {
+    let fault = |refusal| SheetFault::Item {
+        refusal,
+        place,
+        item,
+    };
     let mut low = 0;
     for byte in wanted {
         if *byte / 64 % 2 == 1 {
-            return Err(SheetFault::Item {
-                refusal: Refusal::OutOfRange,
-                place,
-                item,
-            });
+            return Err(fault(Refusal::OutOfRange));
         }
-        let option = (*byte % 64) as u32;
-        if option >= options {
-            return Err(SheetFault::Item {
-                refusal: Refusal::BeyondOptions,
-                place,
-                item,
-            });
-        }
-        if option < low {
-            return Err(SheetFault::Item {
-                refusal: Refusal::Conflict,
-                place,
-                item,
-            });
-        }
+        let option = u32::from(*byte % 64);
+        check_option(option, low, options).map_err(fault)?;
         low = option + 1;
     }
     Ok(())

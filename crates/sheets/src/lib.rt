@@ -2,7 +2,9 @@
 // `ruleformat`.
 #![tactic(auto)]
 
+mod checks;
 mod clauses;
+mod counted;
 mod sheet;
 mod table;
 mod walk;

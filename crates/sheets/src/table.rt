@@ -1,17 +1,17 @@
 // A table sheet: some options as columns, and rows that say yes or no to each.
-ghost use Rattle.std.specs.Prelude.{◌≡◌, ◌+◌, ◌%◌, min, [], ◌∷◌, length};
-ghost use Rattle.refusals.specs.Checks.{judged, when};
+ghost use Rattle.std.specs.Prelude.{◌≡◌, ◌+◌, ◌≤◌, true, false, length, drop, MatchResult};
+ghost use Rattle.refusals.specs.Checks.{judged};
 ghost use Rattle.refusals.specs.declared.refusal.Refusal.TheVariants.{Unfit};
 ghost use Rattle.ruleformat.specs.Records.{at};
 ghost use Rattle.ruleformat.specs.Tables.{column_checks, columns_of, row_checks, rows_in, rows_of, table_checks, unfit_table, width as width_of};
 ghost use Rattle.sheets.specs.Views.{table_body};
 
+use crate::checks::check_option;
+use crate::counted::{split_counted, split_whole};
 use crate::sheet::{Sheet, SheetBody};
 use crate::walk::Rows;
 use assignment::has_bit_from;
 use refusals::{RecordFault, Refusal, SheetFault};
-
-const MAX_COLUMNS: usize = 16;
 
 const MAX_ROW_BYTES: usize = 512;
 
@@ -29,9 +29,9 @@ impl<'a> Sheet<'a> for TableSheet<'a> {
     ghost checks = { table_checks };
 
     fn read(body: &'a [u8], place: usize, options: u32) -> Result<TableSheet<'a>, SheetFault> {
-        let columns = count_columns(body, place)?;
-        check_columns(&body[1..1 + columns], place, options)?;
-        check_rows(&body[1 + columns..], columns as u32, place)?;
+        let (columns, rows) = split_table(body, place)?;
+        check_columns(columns, place, options)?;
+        check_rows(rows, columns.len() as u32, place)?;
         Ok(TableSheet { body })
     }
 }
@@ -41,54 +41,36 @@ impl<'a> TableSheet<'a> {
     pub fn columns(&self) -> &'a [u8]
         ensures { result.now ≡ columns_of (table_body self.now) }
     {
-        let body = self.body;
-        let end = columns_end(body);
-        if end == 0 {
-            return body;
+        match split_counted(self.body) {
+            None => &[],
+            Some((columns, _)) => columns,
         }
-        &body[1..end]
     }
 
     /// The rows, from the first on.
     pub fn rows(&self) -> Rows<'a>
         ensures { rows_in result.rest.now ≡ rows_of (table_body self.now) }
     {
-        let body = self.body;
-        let end = columns_end(body);
-        Rows { rest: &body[end..] }
+        match split_counted(self.body) {
+            None => Rows { rest: &[] },
+            Some((_, rest)) => Rows { rest },
+        }
     }
 }
 
-// Where the columns end: as far as their number says, or as the body goes.
-fn columns_end(body: &[u8]) -> usize
-    ensures { result ≡ min (length body.now) (1 + width_of body.now) }
-{
-    if body.is_empty() {
-        return 0;
-    }
-    body.len().min(1 + body[0] as usize)
-}
-
-// How many columns there are, where the body has room for them and for whole rows.
-fn count_columns(body: &[u8], place: usize) -> Result<usize, RecordFault>
-    ensures { result ≡ judged (when (unfit_table body.now) (at Unfit place) ∷ []) (width_of body.now) }
+// The columns and the rows, where the body has room for the columns and for whole rows.
+fn split_table(body: &[u8], place: usize) -> Result<(&[u8], &[u8]), RecordFault>
+    ensures { MatchResult result (λ p. (unfit_table body.now ≡ false) × (p.0.now ≡ columns_of body.now) × (p.1.now ≡ drop (1 + width_of body.now) body.now) × (length p.0.now ≡ width_of body.now) × (length p.0.now ≤ 16)) (λ e. (unfit_table body.now ≡ true) × (e ≡ at Unfit place)) }
 {
     let unfit = RecordFault {
         refusal: Refusal::Unfit,
         place,
     };
-    if body.is_empty() {
+    let (columns, rows) = split_whole(body).ok_or(unfit)?;
+    if rows.len() % 2 == 1 || rows.len() > MAX_ROW_BYTES {
         return Err(unfit);
     }
-    let columns = body[0] as usize;
-    if columns == 0 || columns > MAX_COLUMNS || body.len() < 1 + columns {
-        return Err(unfit);
-    }
-    let rest = body.len() - (1 + columns);
-    if rest % 2 == 1 || rest > MAX_ROW_BYTES {
-        return Err(unfit);
-    }
-    Ok(columns)
+    Ok((columns, rows))
 }
 
 // Each column is an option, above the one before it.
@@ -96,22 +78,13 @@ fn check_columns(columns: &[u8], place: usize, options: u32) -> Result<(), Sheet
     ensures { result ≡ judged (column_checks options place 0 0 columns.now) tt }
 {
     let mut low = 0;
-    for (i, column) in columns.iter().enumerate() {
-        let option = *column as u32;
-        if option >= options {
-            return Err(SheetFault::Item {
-                refusal: Refusal::BeyondOptions,
-                place,
-                item: i,
-            });
-        }
-        if option < low {
-            return Err(SheetFault::Item {
-                refusal: Refusal::Conflict,
-                place,
-                item: i,
-            });
-        }
+    for (item, column) in columns.iter().enumerate() {
+        let option = u32::from(*column);
+        check_option(option, low, options).map_err(|refusal| SheetFault::Item {
+            refusal,
+            place,
+            item,
+        })?;
         low = option + 1;
     }
     Ok(())
@@ -119,21 +92,16 @@ fn check_columns(columns: &[u8], place: usize, options: u32) -> Result<(), Sheet
 
 // No row sets a bit that stands for no column.
 fn check_rows(rows: &[u8], columns: u32, place: usize) -> Result<(), SheetFault>
-    requires { length rows.now % 2 ≡ 0 }
     ensures { result ≡ judged (row_checks columns place 0 (rows_in rows.now)) tt }
 {
-    let mut rest = rows;
-    let mut item = 0;
-    while rest.len() >= 2 {
-        if has_bit_from(rest[0] as u64 + 256 * rest[1] as u64, columns) {
+    for (item, row) in (Rows { rest: rows }).enumerate() {
+        if has_bit_from(u64::from(row), columns) {
             return Err(SheetFault::Item {
                 refusal: Refusal::OutOfRange,
                 place,
                 item,
             });
         }
-        rest = &rest[2..];
-        item += 1;
     }
     Ok(())
 }

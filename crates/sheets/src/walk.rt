@@ -1,11 +1,11 @@
 // Going through the rows of a table sheet, the clauses of a clause sheet, and the wanted values of a clause.
 ghost use Rattle.std.specs.Prelude.{◌≡◌, [], ◌∷◌, map, length, MatchOption};
-ghost use Rattle.ruleformat.specs.Clauses.{clauses_of, wanted_of};
+ghost use Rattle.ruleformat.specs.Clauses.{clause_pieces, wanted_bytes, wanted_of};
 ghost use Rattle.ruleformat.specs.Tables.{rows_in};
 ghost use Rattle.sheets.specs.Views.{wanted_view};
 ghost use Rattle.std.specs.Iterator.{at_most};
 
-use crate::clauses::split_clause;
+use crate::counted::split_counted;
 
 /// The rows of a table from some row on: bit i of a row is set where column i is yes.
 #[derive(Clone, Copy)]
@@ -21,16 +21,17 @@ impl Iterator for Rows<'_> {
     ghost remaining = { λ s. at_most (length s.rest.now) };
 
     fn next(&mut self) -> Option<u16> {
-        let rest = self.rest;
-        if rest.is_empty() {
-            return None;
+        match self.rest {
+            [] => None,
+            [last] => {
+                self.rest = &[];
+                Some(u16::from(*last))
+            }
+            [low, high, rest @ ..] => {
+                self.rest = rest;
+                Some(u16::from_le_bytes([*low, *high]))
+            }
         }
-        if rest.len() < 2 {
-            self.rest = &rest[1..];
-            return Some(rest[0] as u16);
-        }
-        self.rest = &rest[2..];
-        Some(rest[0] as u16 + 256 * rest[1] as u16)
     }
 }
 
@@ -43,18 +44,14 @@ pub struct Clauses<'a> {
 impl<'a> Iterator for Clauses<'a> {
     type Item = Clause<'a>;
 
-    ghost next_gives = { λ s r t. MatchOption r ((clauses_of s.rest.now ≡ []) × (t.rest.now ≡ s.rest.now)) (λ clause. clauses_of s.rest.now ≡ map wanted_of clause.rest.now ∷ clauses_of t.rest.now) };
+    ghost next_gives = { λ s r t. MatchOption r ((clause_pieces s.rest.now ≡ []) × (t.rest.now ≡ s.rest.now)) (λ clause. (clause_pieces s.rest.now ≡ s.rest.now ∷ clause_pieces t.rest.now) × (clause.rest.now ≡ wanted_bytes s.rest.now)) };
 
     ghost remaining = { λ s. at_most (length s.rest.now) };
 
     fn next(&mut self) -> Option<Clause<'a>> {
-        match split_clause(self.rest) {
-            None => None,
-            Some((wanted, next)) => {
-                self.rest = next;
-                Some(Clause { rest: wanted })
-            }
-        }
+        let (wanted, rest) = split_counted(self.rest)?;
+        self.rest = rest;
+        Some(Clause { rest: wanted })
     }
 }
 
@@ -62,25 +59,6 @@ impl<'a> Iterator for Clauses<'a> {
 #[derive(Clone, Copy)]
 pub struct Clause<'a> {
     pub(crate) rest: &'a [u8],
-}
-
-/// An option, and whether it is wanted no.
-#[derive(Clone, Copy)]
-pub struct Wanted {
-    pub option: u32,
-    pub negated: bool,
-}
-
-impl Wanted {
-    // Bits 0 to 5 are the option, and bit 7 is set where it is wanted no.
-    fn from_byte(byte: u8) -> Wanted
-        ensures { wanted_view result ≡ wanted_of byte }
-    {
-        Wanted {
-            option: (byte % 64) as u32,
-            negated: byte >= 128,
-        }
-    }
 }
 
 impl Iterator for Clause<'_> {
@@ -91,12 +69,27 @@ impl Iterator for Clause<'_> {
     ghost remaining = { λ s. at_most (length s.rest.now) };
 
     fn next(&mut self) -> Option<Wanted> {
-        let rest = self.rest;
-        if rest.is_empty() {
-            return None;
+        let (byte, rest) = self.rest.split_first()?;
+        self.rest = rest;
+        Some(Wanted::from(*byte))
+    }
+}
+
+/// An option, and whether it is wanted no.
+#[derive(Clone, Copy)]
+pub struct Wanted {
+    pub option: u32,
+    pub negated: bool,
+}
+
+// Bits 0 to 5 are the option, and bit 7 is set where it is wanted no.
+impl From<u8> for Wanted {
+    ghost from_gives = { λ byte w. wanted_view w ≡ wanted_of byte };
+
+    fn from(byte: u8) -> Wanted {
+        Wanted {
+            option: u32::from(byte % 64),
+            negated: byte >= 128,
         }
-        let byte = rest[0];
-        self.rest = &rest[1..];
-        Some(Wanted::from_byte(byte))
     }
 }

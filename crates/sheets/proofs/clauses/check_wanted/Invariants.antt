@@ -6,5 +6,5 @@ use Rattle.sheets.proofs.clauses.check_wanted.Given as goal
 
 abbrev pub invariant-loop-byte : goal.invariant-loop-byte
 invariant-loop-byte l =
-    judged (wanted_checks l.options l.place l.item l.low (drop l.byte-index l.wanted)) (tt {0})
-    ≡ judged (wanted_checks l.options l.place l.item 0 l.wanted) (tt {0})
+    judged (wanted_checks l.options l.fn.place l.fn.item l.low (drop l.byte-index l.wanted)) (tt {0})
+    ≡ judged (wanted_checks l.options l.fn.place l.fn.item 0 l.wanted) (tt {0})
