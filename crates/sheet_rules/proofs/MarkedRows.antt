@@ -1,13 +1,17 @@
 -- A row agrees exactly if it fits the masks of what is known.
-use Rattle.std.proofs.Common.{◌≡◌, ℕ, ◌+◌, ◌*◌, ◌/◌, ◌%◌, ◌<◌, ◌≤◌, min, Bool, true, false, not, eqb, ◌⊎◌, List, [], ◌∷◌, sym, refl, ap, ◌∙◌, ap₂, inl, inr, mod-eq_of_lt, arith}
+use Rattle.std.proofs.Common.{◌≡◌, ℕ, ◌+◌, ◌*◌, ◌/◌, ◌%◌, ◌<◌, ◌≤◌, min, Bool, true, false, not, eqb, ◌⊎◌, List, [], ◌∷◌, reverse, sym, refl, ap, ◌∙◌, ap₂, inl, inr, mod-eq_of_lt, arith}
 use lib.Bits.{bit_and, and_le_l, and_mod, and_step, and_zero_r}
+use Rattle.std.specs.List.{fold}
+use Rattle.std.proofs.lemmas.List.{reverse-append}
+use Rattle.std.proofs.lemmas.List.Sums.{fold_push}
 use Rattle.std.specs.Cmp.{both_ways as same_answer}
 use Rattle.std.proofs.lemmas.Bool.{and_from, and_parts, cases_lt, eq-eqb, eqb-true, not_from_false, not-true}
 use Rattle.assignment.specs.Knows.{knows}
 use Rattle.assignment.specs.Size.{bit}
 use Rattle.assignment.specs.declared.assignment.Assignment.{Assignment}
 use Rattle.sheet_rules.specs.Agreement.{agrees, odd}
-use Rattle.sheet_rules.specs.Marks.{fits, known_of}
+use Rattle.sheet_rules.specs.declared.known.Known.{Known}
+use Rattle.sheet_rules.specs.Marks.{fits, known_of, led_by}
 
 -- the columns known to have a value, as a mask of any length
 abbrev marks : Bool → List ℕ → Assignment → ℕ
@@ -24,8 +28,14 @@ unfolding known_of
 known_no [] a = refl
 known_no (c ∷ cs) a = let e = known_no cs a in omega arith
 
-pub known_small : (cs : List ℕ) (a : Assignment) → ((known_of cs a).yes ≤ 65536) × ((known_of cs a).no < 65536)
-known_small cs a = (omega (arith, known_yes cs a), omega (arith, known_no cs a))
+-- the masks are gathered from the last column on
+pub known_fold : (cs : List ℕ) (a : Assignment) → fold (λ k c. led_by c a k) (record { yes = 0; no = 0 }) (reverse cs) ≡ known_of cs a
+unfolding known_of
+known_fold [] a = refl
+known_fold (c ∷ cs) a =
+    let step : Known → ℕ → Known = λ k o. led_by o a k in
+    let none : Known = record { yes = 0; no = 0 } in
+    ap (fold step none) (reverse-append (c ∷ []) cs) ∙ fold_push step none (reverse cs) c ∙ ap (led_by c a) (known_fold cs a)
 
 bit_small : (b : Bool) → bit b < 2
 bit_small true = omega arith

@@ -46,12 +46,7 @@ fn clause_adds(clause: Clause, question: Assignment) -> Option<Assignment>
 fn next_left(values: &mut Clause, question: Assignment) -> Option<Wanted>
     ensures { MatchOption result (left question (map wanted_of values.old.rest.now) ≡ []) (λ w. left question (map wanted_of values.old.rest.now) ≡ wanted_view w ∷ left question (map wanted_of values.new.rest.now)) }
 {
-    while let Some(wanted) = values.next() {
-        if !question.knows(wanted.option, wanted.negated) {
-            return Some(wanted);
-        }
-    }
-    None
+    values.find(|wanted| !question.knows(wanted.option, wanted.negated))
 }
 
 // Nothing is known of any option.
