@@ -35,7 +35,7 @@ impl Common {
         let mut common = self;
         let mut reply = question;
         for column in columns {
-            reply = common.add_first(*column as u32, reply);
+            reply = common.add_first(u32::from(*column), reply);
             common = common.halved();
         }
         reply

@@ -1,10 +1,9 @@
 // The rule of one table sheet.
-ghost use Rattle.std.specs.Prelude.{◌≡◌, if◌then◌else◌, Some, None};
+ghost use Rattle.std.specs.Prelude.{◌≡◌, None};
 ghost use Rattle.ruleformat.specs.Tables.{columns_of, rows_of, table_of};
 ghost use Rattle.sheets.specs.Views.{table_body};
 ghost use Rattle.sheet_rules.specs.Agreement.{agreeing};
-ghost use Rattle.sheet_rules.specs.Gathered.{gathered, with_row};
-ghost use Rattle.sheet_rules.specs.Marks.{fits};
+ghost use Rattle.sheet_rules.specs.Gathered.{gathered};
 ghost use Rattle.sheet_rules.specs.TableReply.{table_lawful, table_reply};
 
 use crate::common::Common;
@@ -36,17 +35,9 @@ fn gather(sheet: &TableSheet, question: Assignment) -> Option<Common>
     let known = Known::of(sheet.columns(), question);
     let mut common = None;
     for row in sheet.rows() {
-        common = gather_row(known, common, row);
-    }
-    common
-}
-
-// A row that does not agree is passed over.
-fn gather_row(known: Known, common: Option<Common>, row: u16) -> Option<Common>
-    ensures { result ≡ (if fits known row then Some (with_row common row) else common) }
-{
-    if known.agrees(row) {
-        return Some(Common::with_row(common, row));
+        if known.agrees(row) {
+            common = Some(Common::with_row(common, row));
+        }
     }
     common
 }
