@@ -11,6 +11,7 @@ use Rattle.ruleformat.specs.Contents.{sheets}
 use Rattle.ruleformat.specs.Kinds.{out_of_turn, unknown}
 use Rattle.ruleformat.specs.Records.{at, body, body_size, head_checks, kind, one_too_many, record_size}
 use Rattle.ruleformat.specs.Tables.{table_of}
+use Rattle.rulefile.specs.Codes.{last_code}
 use Rattle.rulefile.specs.Held.{Ready, held, summed}
 use Rattle.entries.specs.Drafts.{drafted}
 use Rattle.rulefile.specs.Views.{Shown, whole}
@@ -18,24 +19,24 @@ use Rattle.sheets.specs.Views.{clause_body, table_body}
 use Rattle.rulefile.specs.declared.reader.Reader.{Reader}
 use Rattle.rulefile.specs.declared.record.Before.{Before}
 
-sheets_are : (r : Reader) → vec_len r.tables + vec_len r.clauses ≡ sheets (held r)
+sheets_are : (r : Reader) → vec_len r.file.parts.tables + vec_len r.file.parts.clauses ≡ sheets (held r)
 sheets_are r =
-    let ts = length-map (vec_items r.tables) (λ t. table_of (table_body t)) in
-    let ss = length-map (vec_items r.clauses) (λ s. clauses_of (clause_body s)) in
-    omega (arith, r.tables.ok.0, r.clauses.ok.0)
+    let ts = length-map (vec_items r.file.parts.tables) (λ t. table_of (table_body t)) in
+    let ss = length-map (vec_items r.file.parts.clauses) (λ s. clauses_of (clause_body s)) in
+    omega (arith, r.file.parts.tables.ok.0, r.file.parts.clauses.ok.0)
 
-folders_are : (r : Reader) → vec_len r.folders ≡ length (held r).folders
-folders_are r = r.folders.ok.0 ∙ sym (length-map (vec_items r.folders) drafted)
+folders_are : (r : Reader) → vec_len r.file.parts.folders ≡ length (held r).folders
+folders_are r = r.file.parts.folders.ok.0 ∙ sym (length-map (vec_items r.file.parts.folders) drafted)
 
 -- the head is judged by what the reader holds
-same_heads : (r : Reader) (b : Before) (place : ℕ) (rest : List ℕ) → b ≡ summed r → head_checks b.kind b.sheets b.folders place rest ≡ head_checks r.kind (sheets (held r)) (length (held r).folders) place rest
+same_heads : (r : Reader) (b : Before) (place : ℕ) (rest : List ℕ) → b ≡ summed r → head_checks b.kind b.sheets b.folders place rest ≡ head_checks (last_code r.last) (sheets (held r)) (length (held r).folders) place rest
 same_heads r b place rest e =
     ap (λ (x : Before). head_checks x.kind x.sheets x.folders place rest) e
-    ∙ ap (λ s. head_checks r.kind s (vec_len r.folders) place rest) (sheets_are r)
-    ∙ ap (λ f. head_checks r.kind (sheets (held r)) f place rest) (folders_are r)
+    ∙ ap (λ s. head_checks (last_code r.last) s (vec_len r.file.parts.folders) place rest) (sheets_are r)
+    ∙ ap (λ f. head_checks (last_code r.last) (sheets (held r)) f place rest) (folders_are r)
 
 -- an answer by what was summed up is one by what the reader holds
-pub heads_answer : (r : Reader) (b : Before) (place : ℕ) (rest : List ℕ) (x : Result Shown RecordFault) → b ≡ summed r → x ≡ judged (head_checks b.kind b.sheets b.folders place rest) (whole place rest) → judged (head_checks r.kind (sheets (held r)) (length (held r).folders) place rest) (whole place rest) ≡ x
+pub heads_answer : (r : Reader) (b : Before) (place : ℕ) (rest : List ℕ) (x : Result Shown RecordFault) → b ≡ summed r → x ≡ judged (head_checks b.kind b.sheets b.folders place rest) (whole place rest) → judged (head_checks (last_code r.last) (sheets (held r)) (length (held r).folders) place rest) (whole place rest) ≡ x
 heads_answer r b place rest x e h = ap (λ cs. judged cs (whole place rest)) (sym (same_heads r b place rest e)) ∙ sym h
 
 turn : (before k : ℕ) → out_of_turn before k ≡ false → 1 < k → 0 < before
@@ -45,13 +46,13 @@ turn (suc b) k h l = omega arith
 room_at : (s f k j : ℕ) → one_too_many s f k ≡ false → k ≡ j → one_too_many s f j ≡ false
 room_at s f k j h e = rw e at h
 
-module _ (r : Reader) (place : ℕ) (rest : List ℕ) (x : Shown) (h : judged (head_checks r.kind (sheets (held r)) (length (held r).folders) place rest) (whole place rest) ≡ Ok x) where
+module _ (r : Reader) (place : ℕ) (rest : List ℕ) (x : Shown) (h : judged (head_checks (last_code r.last) (sheets (held r)) (length (held r).folders) place rest) (whole place rest) ≡ Ok x) where
   v : Shown
   v = whole place rest
 
   unturned : List (Check RecordFault)
   unturned =
-      when (out_of_turn r.kind (kind rest)) (at OutOfTurn place)
+      when (out_of_turn (last_code r.last) (kind rest)) (at OutOfTurn place)
       ∷ when (one_too_many (sheets (held r)) (length (held r).folders) (kind rest)) (at TooMany place)
       ∷ when (ltb (length rest) (record_size rest)) (at Cut place) ∷ []
 
@@ -63,7 +64,7 @@ module _ (r : Reader) (place : ℕ) (rest : List ℕ) (x : Shown) (h : judged (h
       (judged_tail (when (ltb (length rest) 4) (at Cut place)) (when (unknown (kind rest)) (at UnknownKind place) ∷ unturned) v x h)
 
   pub shown_is : x ≡ whole place rest
-  shown_is = judged_value (head_checks r.kind (sheets (held r)) (length (held r).folders) place rest) (whole place rest) x h
+  shown_is = judged_value (head_checks (last_code r.last) (sheets (held r)) (length (held r).folders) place rest) (whole place rest) x h
 
   roomy : List (Check RecordFault)
   roomy =
@@ -72,7 +73,7 @@ module _ (r : Reader) (place : ℕ) (rest : List ℕ) (x : Shown) (h : judged (h
 
   from_room : judged roomy v ≡ Ok x
   unfolding roomy unturned v
-  from_room = judged_tail (when (out_of_turn r.kind (kind rest)) (at OutOfTurn place)) roomy v x from_turn
+  from_room = judged_tail (when (out_of_turn (last_code r.last) (kind rest)) (at OutOfTurn place)) roomy v x from_turn
 
   fits : judged (when (ltb (length rest) (record_size rest)) (at Cut place) ∷ []) v ≡ Ok x
   unfolding roomy v
@@ -80,9 +81,9 @@ module _ (r : Reader) (place : ℕ) (rest : List ℕ) (x : Shown) (h : judged (h
       judged_tail (when (one_too_many (sheets (held r)) (length (held r).folders) (kind rest)) (at TooMany place))
       (when (ltb (length rest) (record_size rest)) (at Cut place) ∷ []) v x from_room
 
-  in_turn : out_of_turn r.kind (kind rest) ≡ false
+  in_turn : out_of_turn (last_code r.last) (kind rest) ≡ false
   unfolding unturned roomy v
-  in_turn = judged_head (when (out_of_turn r.kind (kind rest)) (at OutOfTurn place)) roomy v x from_turn
+  in_turn = judged_head (when (out_of_turn (last_code r.last) (kind rest)) (at OutOfTurn place)) roomy v x from_turn
 
   has_room : one_too_many (sheets (held r)) (length (held r).folders) (kind rest) ≡ false
   unfolding roomy v
@@ -102,14 +103,14 @@ module _ (r : Reader) (place : ℕ) (rest : List ℕ) (x : Shown) (h : judged (h
 
   pub is_ready : Ready r (kind rest)
   is_ready = (
-    turn r.kind (kind rest) in_turn,
+    turn (last_code r.last) (kind rest) in_turn,
     λ e. sheets_below 2 e (leb-false 32 (sheets (held r)) (room_at (sheets (held r)) (length (held r).folders) (kind rest) 2 has_room e)),
     λ e. sheets_below 3 e (leb-false 32 (sheets (held r)) (room_at (sheets (held r)) (length (held r).folders) (kind rest) 3 has_room e)),
     λ e. folders_below (leb-false 4 (length (held r).folders) (room_at (sheets (held r)) (length (held r).folders) (kind rest) 4 has_room e)),
   )
     where
-      sheets_below : (j : ℕ) → kind rest ≡ j → sheets (held r) < 32 → vec_len r.tables + vec_len r.clauses < 32
+      sheets_below : (j : ℕ) → kind rest ≡ j → sheets (held r) < 32 → vec_len r.file.parts.tables + vec_len r.file.parts.clauses < 32
       sheets_below j e l = omega (arith, sheets_are r)
 
-      folders_below : length (held r).folders < 4 → vec_len r.folders < 4
+      folders_below : length (held r).folders < 4 → vec_len r.file.parts.folders < 4
       folders_below l = omega (arith, folders_are r)

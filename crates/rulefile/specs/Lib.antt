@@ -1,2 +1,4 @@
+pub mod Codes
 pub mod Held
+pub mod Room
 pub mod Views

@@ -24,13 +24,16 @@ pub record Shown : Type 0 where
   pub body : List ℕ
   pub place : ℕ
 
+abbrev pub shown : (kind : ℕ) → List ℕ → (place : ℕ) → Shown
+shown k b p = record { kind = k; body = b; place = p }
+
 abbrev pub show : Record → Shown
-show (record_case.Start b p) = record { kind = 1; body = b.now; place = p }
-show (record_case.Table b p) = record { kind = 2; body = b.now; place = p }
-show (record_case.Clauses b p) = record { kind = 3; body = b.now; place = p }
-show (record_case.Folder b p) = record { kind = 4; body = b.now; place = p }
-show (record_case.Question b p) = record { kind = 5; body = b.now; place = p }
+show (record_case.Start b p) = shown 1 b.now p
+show (record_case.Table b p) = shown 2 b.now p
+show (record_case.Clauses b p) = shown 3 b.now p
+show (record_case.Folder b p) = shown 4 b.now p
+show (record_case.Question b p) = shown 5 b.now p
 
 -- the record that begins the bytes
 abbrev pub whole : ℕ → List ℕ → Shown
-whole p rest = record { kind = kind rest; body = body rest; place = p }
+whole p rest = shown (kind rest) (body rest) p

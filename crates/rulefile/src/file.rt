@@ -11,14 +11,11 @@ use sheets::{ClauseSheet, TableSheet};
 /// where there is none.
 #[derive(Drop)]
 pub struct RuleFile<'a> {
-    pub(crate) options: u8,
-    pub(crate) start: Assignment,
-    pub(crate) tables: Vec<TableSheet<'a>>,
-    pub(crate) clauses: Vec<ClauseSheet<'a>>,
-    pub(crate) folders: Vec<Draft>,
-    pub(crate) asked: u8,
-    ghost few: { vec_len tables + vec_len clauses ≤ 32 },
-    ghost low: { vec_len folders ≤ 4 },
+    pub(crate) parts: FileParts<'a>,
+    ghost few: { vec_len parts.tables + vec_len parts.clauses ≤ 32 },
+    ghost low: { vec_len parts.folders ≤ 4 },
+    ghost told: { parts.options ≤ 64 },
+    ghost byte: { parts.asked < 256 },
 }
 
 /// The parts of a rule file, to be taken apart.
@@ -35,80 +32,65 @@ pub struct FileParts<'a> {
 impl<'a> RuleFile<'a> {
     /// How many options there are.
     pub fn options(&self) -> u32
-        ensures { result ≡ self.now.options }
+        ensures { result ≡ self.now.parts.options }
     {
-        self.options as u32
+        self.parts.options
     }
 
     /// What is known from the outset.
     pub fn start(&self) -> Assignment
-        ensures { result ≡ self.now.start }
+        ensures { result ≡ self.now.parts.start }
     {
-        self.start
+        self.parts.start
     }
 
     /// The table sheets, in file order.
     pub fn tables(&self) -> &[TableSheet<'a>]
-        ensures { result.now ≡ self.now.tables.items }
+        ensures { result.now ≡ self.now.parts.tables.items }
     {
-        self.tables.as_slice()
+        self.parts.tables.as_slice()
     }
 
     /// The clause sheets, in file order.
     pub fn clauses(&self) -> &[ClauseSheet<'a>]
-        ensures { result.now ≡ self.now.clauses.items }
+        ensures { result.now ≡ self.now.parts.clauses.items }
     {
-        self.clauses.as_slice()
+        self.parts.clauses.as_slice()
+    }
+
+    /// The folders, from the lowest on.
+    pub fn folders(&self) -> &[Draft]
+        ensures { result.now ≡ self.now.parts.folders.items }
+    {
+        self.parts.folders.as_slice()
     }
 
     /// How many folders there are.
     pub fn folder_count(&self) -> usize
-        ensures { result ≡ vec_len self.now.folders }
+        ensures { result ≡ vec_len self.now.parts.folders }
     {
-        self.folders.len()
+        self.parts.folders.len()
     }
 
     /// The entries of a folder, counted from the lowest; none where there is no such folder.
     pub fn folder(&self, index: usize) -> Option<&[Entry]>
-        ensures { MatchOption result (vec_len self.now.folders ≤ index) (λ es. (index < vec_len self.now.folders) × ((d : Draft) → es.now ≡ drafted (slice_index_or self.now.folders.items index d))) }
+        ensures { MatchOption result (vec_len self.now.parts.folders ≤ index) (λ es. (index < vec_len self.now.parts.folders) × ((d : Draft) → es.now ≡ drafted (slice_index_or self.now.parts.folders.items index d))) }
     {
-        match self.folders.get(index) {
-            Some(folder) => Some(folder.entries()),
-            None => None,
-        }
+        self.parts.folders.get(index).map(Draft::entries)
     }
 
     /// The asked rule.
     pub fn asked(&self) -> u32
-        ensures { result ≡ self.now.asked }
+        ensures { result ≡ self.now.parts.asked }
     {
-        self.asked as u32
+        self.parts.asked
     }
 
     /// The file taken apart.
     pub fn into_parts(self) -> FileParts<'a>
-        ensures options { result.options ≡ self.entry.options }
-        ensures start { result.start ≡ self.entry.start }
-        ensures tables { result.tables ≡ self.entry.tables }
-        ensures clauses { result.clauses ≡ self.entry.clauses }
-        ensures folders { result.folders ≡ self.entry.folders }
-        ensures asked { result.asked ≡ self.entry.asked }
+        ensures { result ≡ self.entry.parts }
     {
-        let RuleFile {
-            options,
-            start,
-            tables,
-            clauses,
-            folders,
-            asked,
-        } = self;
-        FileParts {
-            options: options as u32,
-            start,
-            tables,
-            clauses,
-            folders,
-            asked: asked as u32,
-        }
+        let RuleFile { parts } = self;
+        parts
     }
 }

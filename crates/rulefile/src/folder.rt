@@ -52,32 +52,28 @@ fn add_entries(draft: &mut Draft, body: &[u8], place: usize) -> Result<(), Folde
     ensures answer { result ≡ judged (entries_checks draft.old.options draft.old.below place 0 (entry_pieces body.now)) tt }
     ensures entries { OnOk result (drafted draft.new ≡ entries_of body.now) }
 {
-    let mut rest = body;
-    let mut item = 0;
-    while rest.len() >= ENTRY_SIZE {
-        if let Err(refusal) = draft.add(read_fields(rest)) {
-            return Err(FolderFault::Entry {
+    let (entries, _) = body.as_chunks::<ENTRY_SIZE>();
+    for (item, entry) in entries.iter().enumerate() {
+        draft
+            .add(read_fields(entry))
+            .map_err(|refusal| FolderFault::Entry {
                 refusal,
                 place,
                 item,
-            });
-        }
-        rest = &rest[ENTRY_SIZE..];
-        item += 1;
+            })?;
     }
     Ok(())
 }
 
-// The fields of the entry that begins the bytes.
-fn read_fields(rest: &[u8]) -> EntryFields
-    requires { 12 ≤ length rest.now }
-    ensures { result ≡ fields_of rest.now }
+// The fields of an entry.
+fn read_fields(entry: &[u8; ENTRY_SIZE]) -> EntryFields
+    ensures { result ≡ fields_of entry.now }
 {
     EntryFields {
-        op: rest[0],
-        first: rest[1],
-        second: rest[2],
-        third: rest[3],
-        word: read_u64(rest, 4),
+        op: entry[0],
+        first: entry[1],
+        second: entry[2],
+        third: entry[3],
+        word: read_u64(&entry[4..]),
     }
 }

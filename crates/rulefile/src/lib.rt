@@ -5,6 +5,7 @@
 mod bytes;
 mod file;
 mod folder;
+mod kind;
 mod reader;
 mod record;
 mod space;

@@ -3,8 +3,10 @@ ghost use Rattle.std.specs.Prelude.{◌≡◌, ◌+◌, length};
 ghost use Rattle.refusals.specs.Checks.{judged, seen};
 ghost use Rattle.ruleformat.specs.Kinds.{out_of_turn};
 ghost use Rattle.ruleformat.specs.Records.{head_checks, one_too_many};
-ghost use Rattle.rulefile.specs.Views.{show, whole};
+ghost use Rattle.rulefile.specs.Codes.{code};
+ghost use Rattle.rulefile.specs.Views.{show, shown, whole};
 
+use crate::kind::Kind;
 use refusals::{RecordFault, Refusal};
 
 const HEAD: usize = 4;
@@ -32,23 +34,25 @@ pub struct Before {
 }
 
 impl Before {
-    // Whether a record of a known kind may not come now.
-    fn excludes(self, kind: usize) -> bool
-        ensures { result ≡ out_of_turn self.kind kind }
+    // Whether a record of this kind may not come now.
+    fn excludes(self, kind: Kind) -> bool
+        ensures { result ≡ out_of_turn self.kind (code kind) }
     {
         if self.kind == 0 {
-            return kind != 1;
+            return kind != Kind::Start;
         }
-        self.kind == 5 || kind == 1 || kind < self.kind
+        self.kind == usize::from(Kind::Question)
+            || kind == Kind::Start
+            || usize::from(kind) < self.kind
     }
 
     // Whether a record of this kind would be one more than may be kept.
-    fn is_full_for(self, kind: usize) -> bool
-        ensures { result ≡ one_too_many self.sheets self.folders kind }
+    fn is_full_for(self, kind: Kind) -> bool
+        ensures { result ≡ one_too_many self.sheets self.folders (code kind) }
     {
         match kind {
-            2 | 3 => self.sheets >= MAX_SHEETS,
-            4 => self.folders >= MAX_FOLDERS,
+            Kind::Table | Kind::Clauses => self.sheets >= MAX_SHEETS,
+            Kind::Folder => self.folders >= MAX_FOLDERS,
             _ => false,
         }
     }
@@ -62,49 +66,40 @@ pub fn next_record<'a>(
 ) -> Result<Record<'a>, RecordFault>
     ensures { seen show result ≡ judged (head_checks before.kind before.sheets before.folders place rest.now) (whole place rest.now) }
 {
-    if rest.len() < HEAD {
-        return Err(RecordFault {
-            refusal: Refusal::Cut,
-            place,
-        });
-    }
-    let size = rest[0] as usize + 256 * rest[1] as usize;
-    let kind = rest[2] as usize + 256 * rest[3] as usize;
-    if kind == 0 || kind > 5 {
-        return Err(RecordFault {
-            refusal: Refusal::UnknownKind,
-            place,
-        });
-    }
+    let fault = |refusal| RecordFault { refusal, place };
+    let [size_low, size_high, kind_low, kind_high, ..] = rest else {
+        return Err(fault(Refusal::Cut));
+    };
+    let size = usize::from(u16::from_le_bytes([*size_low, *size_high]));
+    let Ok(kind) = Kind::try_from(u16::from_le_bytes([*kind_low, *kind_high])) else {
+        return Err(fault(Refusal::UnknownKind));
+    };
     if before.excludes(kind) {
-        return Err(RecordFault {
-            refusal: Refusal::OutOfTurn,
-            place,
-        });
+        return Err(fault(Refusal::OutOfTurn));
     }
     if before.is_full_for(kind) {
-        return Err(RecordFault {
-            refusal: Refusal::TooMany,
-            place,
-        });
+        return Err(fault(Refusal::TooMany));
     }
     if rest.len() < HEAD + size {
-        return Err(RecordFault {
-            refusal: Refusal::Cut,
-            place,
-        });
+        return Err(fault(Refusal::Cut));
     }
-    let body = &rest[HEAD..HEAD + size];
-    match kind {
-        1 => Ok(Record::Start { body, place }),
-        2 => Ok(Record::Table { body, place }),
-        3 => Ok(Record::Clauses { body, place }),
-        4 => Ok(Record::Folder { body, place }),
-        _ => Ok(Record::Question { body, place }),
-    }
+    Ok(Record::of_kind(kind, &rest[HEAD..HEAD + size], place))
 }
 
-impl Record<'_> {
+impl<'a> Record<'a> {
+    // The record of this kind.
+    fn of_kind(kind: Kind, body: &'a [u8], place: usize) -> Record<'a>
+        ensures { show result ≡ shown (code kind) body.now place }
+    {
+        match kind {
+            Kind::Start => Record::Start { body, place },
+            Kind::Table => Record::Table { body, place },
+            Kind::Clauses => Record::Clauses { body, place },
+            Kind::Folder => Record::Folder { body, place },
+            Kind::Question => Record::Question { body, place },
+        }
+    }
+
     // How many bytes of the file the record takes.
     pub(crate) fn size(self) -> usize
         ensures { result ≡ 4 + length (show self.entry).body }

@@ -1,5 +1,6 @@
 // Memory for what a rule file holds, reserved before it is read.
-ghost use Rattle.std.specs.Prelude.{◌≡◌, ◌≤◌, IfOk, vec_len, vec_capacity};
+ghost use Rattle.std.specs.Prelude.{◌≡◌, IfOk, vec_len};
+ghost use Rattle.rulefile.specs.Room.{HasRoom, IsEmpty};
 
 use entries::{Draft, EntrySpace};
 use sheets::{ClauseSheet, TableSheet};
@@ -16,14 +17,14 @@ pub struct Space<'a> {
     pub(crate) clauses: Vec<ClauseSheet<'a>>,
     pub(crate) folders: Vec<Draft>,
     pub(crate) spare: Vec<EntrySpace>,
-    ghost empty: { (vec_len tables ≡ 0) × (vec_len clauses ≡ 0) × (vec_len folders ≡ 0) },
-    ghost room: { (32 ≤ vec_capacity tables) × (32 ≤ vec_capacity clauses) × (4 ≤ vec_capacity folders) × (vec_len spare ≡ 4) },
+    ghost empty: { IsEmpty tables clauses folders },
+    ghost room: { HasRoom tables clauses folders × (vec_len spare ≡ 4) },
 }
 
 impl<'a> Space<'a> {
     /// Reserves the room; the only call here that can fail for want of memory.
     pub fn reserve(heap: Global) -> Result<Space<'a>, AllocError>
-        ensures { IfOk result (λ s. (vec_len s.tables ≡ 0) × (vec_len s.clauses ≡ 0) × (vec_len s.folders ≡ 0) × (32 ≤ vec_capacity s.tables) × (32 ≤ vec_capacity s.clauses) × (4 ≤ vec_capacity s.folders) × (vec_len s.spare ≡ 4)) }
+        ensures { IfOk result (λ s. IsEmpty s.tables s.clauses s.folders × HasRoom s.tables s.clauses s.folders × (vec_len s.spare ≡ 4)) }
     {
         let tables = Vec::with_capacity(heap, SHEETS)?;
         let clauses = Vec::with_capacity(heap, SHEETS)?;

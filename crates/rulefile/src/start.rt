@@ -14,7 +14,7 @@ const MAX_OPTIONS: u8 = 64;
 
 #[derive(Clone, Copy)]
 pub(crate) struct Start {
-    pub options: u8,
+    pub options: u32,
     pub known: Assignment,
 }
 
@@ -22,6 +22,7 @@ pub(crate) struct Start {
 pub(crate) fn read_start(body: &[u8], place: usize) -> Result<Start, FileFault>
     ensures { seen start_view result ≡ judged (start_checks place body.now) (start_in body.now) }
 {
+    let fault = |refusal| FileFault::Start { refusal, place };
     if body.len() != START_SIZE {
         return Err(FileFault::Record(RecordFault {
             refusal: Refusal::Unfit,
@@ -30,35 +31,21 @@ pub(crate) fn read_start(body: &[u8], place: usize) -> Result<Start, FileFault>
     }
     let options = body[0];
     if options == 0 {
-        return Err(FileFault::Start {
-            refusal: Refusal::OutOfRange,
-            place,
-        });
+        return Err(fault(Refusal::OutOfRange));
     }
     if options > MAX_OPTIONS {
-        return Err(FileFault::Start {
-            refusal: Refusal::OutOfRange,
-            place,
-        });
+        return Err(fault(Refusal::OutOfRange));
     }
-    let known = Assignment::new(read_u64(body, 1), read_u64(body, 9));
-    if has_bit_from(known.yes_mask(), options as u32) {
-        return Err(FileFault::Start {
-            refusal: Refusal::BeyondOptions,
-            place,
-        });
+    let options = u32::from(options);
+    let known = Assignment::new(read_u64(&body[1..9]), read_u64(&body[9..]));
+    if has_bit_from(known.yes_mask(), options) {
+        return Err(fault(Refusal::BeyondOptions));
     }
-    if has_bit_from(known.no_mask(), options as u32) {
-        return Err(FileFault::Start {
-            refusal: Refusal::BeyondOptions,
-            place,
-        });
+    if has_bit_from(known.no_mask(), options) {
+        return Err(fault(Refusal::BeyondOptions));
     }
     if known.is_inconsistent() {
-        return Err(FileFault::Start {
-            refusal: Refusal::Conflict,
-            place,
-        });
+        return Err(fault(Refusal::Conflict));
     }
     Ok(Start { options, known })
 }

@@ -1,113 +1,122 @@
-// Keeping what one record holds.
-ghost use Rattle.std.specs.Prelude.{◌≡◌, ◌+◌, ◌<◌, vec_len, OnOk};
-ghost use Rattle.refusals.specs.Checks.{judged, within};
+// Keeping what one record holds. A reader that refuses a record is gone.
+ghost use Rattle.std.specs.Prelude.{◌≡◌};
+ghost use Rattle.refusals.specs.Checks.{judged, seen, within};
 ghost use Rattle.refusals.specs.declared.fault.FileFault.TheVariants.{Sheet as in_sheet, Folder as in_folder};
 ghost use Rattle.ruleformat.specs.Clauses.{clauses_checks, with_clauses};
 ghost use Rattle.ruleformat.specs.Contents.{rules as rules_of};
 ghost use Rattle.ruleformat.specs.Folders.{folder_checks, with_folder};
-ghost use Rattle.ruleformat.specs.Reading.{question_checks, with_question};
+ghost use Rattle.ruleformat.specs.Reading.{body_checks, question_checks, with_question, with_record};
 ghost use Rattle.ruleformat.specs.Starts.{start_checks, with_start};
 ghost use Rattle.ruleformat.specs.Tables.{table_checks, with_table};
-ghost use Rattle.rulefile.specs.Held.{Kept, Paired, held};
+ghost use Rattle.rulefile.specs.Held.{Ready, held, kept, so_far};
+ghost use Rattle.rulefile.specs.Views.{show};
 
 use super::Reader;
 use crate::folder::read_folder;
+use crate::kind::Kind;
+use crate::record::Record;
 use crate::start::read_start;
 use refusals::{FileFault, RecordFault, Refusal};
 use sheets::{ClauseSheet, Sheet, TableSheet};
 
 impl<'a> Reader<'a> {
+    // Keeps what a record holds.
+    pub(crate) fn keep(self, next: Record<'a>) -> Result<Reader<'a>, FileFault>
+        requires { Ready self (show next).kind }
+        ensures { seen so_far result ≡ judged (body_checks (show next.entry).kind (show next.entry).place (show next.entry).body (held self.entry)) (kept (show next.entry).kind (with_record (show next.entry).kind (show next.entry).body (held self.entry))) }
+    {
+        match next {
+            Record::Start { body, place } => self.keep_start(body, place),
+            Record::Table { body, place } => self.keep_table(body, place),
+            Record::Clauses { body, place } => self.keep_clauses(body, place),
+            Record::Folder { body, place } => self.keep_folder(body, place),
+            Record::Question { body, place } => self.keep_question(body, place),
+        }
+    }
+
     // The number of options and what is known of them from the outset.
-    pub(crate) fn keep_start(&mut self, body: &'a [u8], place: usize) -> Result<(), FileFault>
-        requires paired { Paired self.old }
-        ensures answer { result ≡ judged (start_checks place body.now) tt }
-        ensures kept { OnOk result (Kept 1 (with_start body.now (held self.old)) self.new) }
+    fn keep_start(mut self, body: &[u8], place: usize) -> Result<Reader<'a>, FileFault>
+        ensures { seen so_far result ≡ judged (start_checks place body.now) (kept 1 (with_start body.now (held self.entry))) }
     {
         let start = read_start(body, place)?;
-        self.options = start.options;
-        self.start = start.known;
-        self.kind = 1;
-        Ok(())
+        let file = &mut self.file;
+        file.parts.options = start.options;
+        file.parts.start = start.known;
+        self.last = Some(Kind::Start);
+        Ok(self)
     }
 
     // One table sheet more.
-    pub(crate) fn keep_table(&mut self, body: &'a [u8], place: usize) -> Result<(), FileFault>
-        requires paired { Paired self.old }
-        requires begun { 0 < self.old.kind }
-        requires fits { vec_len self.old.tables + vec_len self.old.clauses < 32 }
-        ensures answer { result ≡ judged (within in_sheet (table_checks self.old.options place body.now)) tt }
-        ensures kept { OnOk result (Kept 2 (with_table body.now (held self.old)) self.new) }
+    fn keep_table(mut self, body: &'a [u8], place: usize) -> Result<Reader<'a>, FileFault>
+        requires { Ready self 2 }
+        ensures { seen so_far result ≡ judged (within in_sheet (table_checks (held self.entry).options place body.entry.now)) (kept 2 (with_table body.entry.now (held self.entry))) }
     {
-        let sheet = TableSheet::read(body, place, self.options as u32)?;
-        self.tables.push_reserved(sheet);
-        self.kind = 2;
-        Ok(())
+        let sheet = TableSheet::read(body, place, self.file.parts.options)?;
+        let file = &mut self.file;
+        file.parts.tables.push_reserved(sheet);
+        self.last = Some(Kind::Table);
+        Ok(self)
     }
 
     // One clause sheet more.
-    pub(crate) fn keep_clauses(&mut self, body: &'a [u8], place: usize) -> Result<(), FileFault>
-        requires paired { Paired self.old }
-        requires begun { 0 < self.old.kind }
-        requires fits { vec_len self.old.tables + vec_len self.old.clauses < 32 }
-        ensures answer { result ≡ judged (within in_sheet (clauses_checks self.old.options place body.now)) tt }
-        ensures kept { OnOk result (Kept 3 (with_clauses body.now (held self.old)) self.new) }
+    fn keep_clauses(mut self, body: &'a [u8], place: usize) -> Result<Reader<'a>, FileFault>
+        requires { Ready self 3 }
+        ensures { seen so_far result ≡ judged (within in_sheet (clauses_checks (held self.entry).options place body.entry.now)) (kept 3 (with_clauses body.entry.now (held self.entry))) }
     {
-        let sheet = ClauseSheet::read(body, place, self.options as u32)?;
-        self.clauses.push_reserved(sheet);
-        self.kind = 3;
-        Ok(())
+        let sheet = ClauseSheet::read(body, place, self.file.parts.options)?;
+        let file = &mut self.file;
+        file.parts.clauses.push_reserved(sheet);
+        self.last = Some(Kind::Clauses);
+        Ok(self)
     }
 
     // One folder more, over the rules so far.
-    pub(crate) fn keep_folder(&mut self, body: &'a [u8], place: usize) -> Result<(), FileFault>
-        requires paired { Paired self.old }
-        requires begun { 0 < self.old.kind }
-        requires fits { vec_len self.old.folders < 4 }
-        ensures answer { result ≡ judged (within in_folder (folder_checks self.old.options (rules_of (held self.old)) place body.now)) tt }
-        ensures kept { OnOk result (Kept 4 (with_folder body.now (held self.old)) self.new) }
+    fn keep_folder(mut self, body: &[u8], place: usize) -> Result<Reader<'a>, FileFault>
+        requires { Ready self 4 }
+        ensures { seen so_far result ≡ judged (within in_folder (folder_checks (held self.entry).options (rules_of (held self.entry)) place body.now)) (kept 4 (with_folder body.now (held self.entry))) }
     {
         let rules = self.rules();
         let Some(space) = self.spare.pop() else {
             unreachable()
         };
-        let draft = read_folder(space, body, place, self.options as u32, rules)?;
-        self.folders.push_reserved(draft);
-        self.kind = 4;
-        Ok(())
+        let draft = read_folder(space, body, place, self.file.parts.options, rules)?;
+        let file = &mut self.file;
+        file.parts.folders.push_reserved(draft);
+        self.last = Some(Kind::Folder);
+        Ok(self)
     }
 
     // The asked rule.
-    pub(crate) fn keep_question(&mut self, body: &'a [u8], place: usize) -> Result<(), FileFault>
-        requires paired { Paired self.old }
-        requires begun { 0 < self.old.kind }
-        ensures answer { result ≡ judged (question_checks (rules_of (held self.old)) place body.now) tt }
-        ensures kept { OnOk result (Kept 5 (with_question body.now (held self.old)) self.new) }
+    fn keep_question(mut self, body: &[u8], place: usize) -> Result<Reader<'a>, FileFault>
+        requires { Ready self 5 }
+        ensures { seen so_far result ≡ judged (question_checks (rules_of (held self.entry)) place body.now) (kept 5 (with_question body.now (held self.entry))) }
     {
-        if body.len() != 1 {
+        let [asked] = body else {
             return Err(FileFault::Record(RecordFault {
                 refusal: Refusal::Unfit,
                 place,
             }));
-        }
-        let asked = body[0];
-        if asked as u32 >= self.rules() {
+        };
+        let asked = u32::from(*asked);
+        if asked >= self.rules() {
             return Err(FileFault::Question {
                 refusal: Refusal::NoSuchRule,
                 place,
             });
         }
-        self.asked = asked;
-        self.kind = 5;
-        Ok(())
+        self.file.parts.asked = asked;
+        self.last = Some(Kind::Question);
+        Ok(self)
     }
 
     // How many rules the next folder, or the question, may name.
     fn rules(&self) -> u32
         ensures { result ≡ rules_of (held self.now) }
     {
-        match self.folders.last() {
+        let file = &self.file;
+        match file.folders().last() {
             Some(folder) => folder.entries().len() as u32,
-            None => (self.tables.len() + self.clauses.len()) as u32,
+            None => (file.tables().len() + file.clauses().len()) as u32,
         }
     }
 }

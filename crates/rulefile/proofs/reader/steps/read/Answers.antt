@@ -20,10 +20,7 @@ exact : (bytes : List ℕ) → Each Byte bytes → (r : Result RuleFile FileFaul
 exact bytes each (Ok f) h = accepted_is_encoded bytes (contents_of f) each (sym h)
 exact bytes each (Err e) h = (refused_by_first bytes e).0 (sym h)
 
-pub returns : goal.returns
-returns c =
+pub returns-clause-exact : goal.returns-clause-exact
+returns-clause-exact c =
     let bytes = c.args.bytes.now in
-    record {
-      answer = c.read_records.ensures;
-      exact = exact bytes (bytes_fit bytes c.type_inv.bytes) c.read_records.result c.read_records.ensures;
-    }
+    exact bytes (bytes_fit bytes c.type_inv.bytes) c.read_records.result c.read_records.ensures

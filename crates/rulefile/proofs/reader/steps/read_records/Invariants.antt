@@ -4,16 +4,17 @@ use Rattle.refusals.specs.Checks.{judged}
 use Rattle.ruleformat.specs.Contents.{nothing}
 use Rattle.ruleformat.specs.Reading.{checks_from, contents, held_from}
 use Rattle.ruleformat.specs.Records.{records}
-use Rattle.rulefile.specs.Held.{Paired, held}
+use Rattle.rulefile.specs.Codes.{last_code}
+use Rattle.rulefile.specs.Held.{held}
 use Rattle.rulefile.proofs.reader.steps.read_records.Given as goal
 
 abbrev pub invariant-loop-rest : goal.invariant-loop-rest
 invariant-loop-rest l =
-    (judged (checks_from (length l.bytes) l.reader.kind (held l.reader) (records l.rest))
-    (held_from (held l.reader) (records l.rest))
-    ≡ judged (checks_from (length l.bytes) 0 nothing (records l.bytes)) (contents l.bytes))
-    × Paired l.reader
-    × (length l.rest ≤ length l.bytes)
+    record {
+      decides : judged (checks_from (length l.bytes) (last_code l.reader.last) (held l.reader) (records l.rest)) (held_from (held l.reader) (records l.rest))
+          ≡ judged (checks_from (length l.bytes) 0 nothing (records l.bytes)) (contents l.bytes);
+      within : length l.rest ≤ length l.bytes;
+    }
 
 abbrev pub decreases-loop-rest : goal.decreases-loop-rest
 decreases-loop-rest l = length l.rest
