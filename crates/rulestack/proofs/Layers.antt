@@ -15,7 +15,7 @@ use Rattle.folders.specs.Folders.{folder, stack}
 use Rattle.folders.proofs.Stacks.{reply_at}
 use Rattle.ruleset.specs.Listed.{nothing}
 use Rattle.ruleset.specs.Meaning.{Lawful, Meaning}
-use Rattle.rulestack.specs.Nested.{laid}
+use Rattle.rulestack.specs.Laid.{laid}
 
 carries_length : (n : ℕ) → length (carries n) ≡ n
 unfolding carries

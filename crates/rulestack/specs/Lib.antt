@@ -1,4 +1,4 @@
 pub mod FileRules
-pub mod Nested
+pub mod Laid
 pub mod Statements
 pub mod Worked

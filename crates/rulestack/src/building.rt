@@ -4,7 +4,7 @@ ghost use Rattle.entries.specs.Drafts.{carries, drafted};
 ghost use Rattle.folders.specs.Folders.{folder};
 ghost use Rattle.rulefile.specs.Held.{contents_of};
 ghost use Rattle.rulestack.specs.FileRules.{file_rules};
-ghost use Rattle.rulestack.specs.Nested.{laid, stack_means};
+ghost use Rattle.rulestack.specs.Laid.{laid};
 
 use crate::space::StackSpace;
 use assignment::Assignment;
@@ -21,7 +21,7 @@ pub type RuleStack<'a> = Folder<
 
 /// The rules of a file. A folder that the file does not have carries every rule under its own number.
 pub fn build<'a>(space: StackSpace, file: RuleFile<'a>) -> RuleStack<'a>
-    ensures { stack_means result ≡ file_rules (contents_of file.entry) }
+    ensures { ⟦<RuleStack<'static> as RuleSet>⟧.meaning result ≡ file_rules (contents_of file.entry) }
 {
     let FileParts {
         options,
@@ -31,12 +31,7 @@ pub fn build<'a>(space: StackSpace, file: RuleFile<'a>) -> RuleStack<'a>
         folders,
         asked: _,
     } = file.into_parts();
-    let StackSpace {
-        first,
-        second,
-        third,
-        fourth,
-    } = space;
+    let [first, second, third, fourth] = space.folders;
     let mut drafts = folders.into_iter();
     let sheets = SideBySide::new(TableSheets::new(tables), ClauseSheets::new(clauses));
     let one = lay(first, drafts.next(), options, sheets);
@@ -47,8 +42,8 @@ pub fn build<'a>(space: StackSpace, file: RuleFile<'a>) -> RuleStack<'a>
 
 /// The reply of a rule of a file.
 pub fn ask(rules: &mut RuleStack<'_>, rule: u32, question: Assignment) -> Assignment
-    ensures answer { result ≡ (stack_means rules.old).reply rule question }
-    ensures same { stack_means rules.new ≡ stack_means rules.old }
+    ensures answer { result ≡ (⟦<RuleStack<'static> as RuleSet>⟧.meaning rules.old).reply rule question }
+    ensures same { ⟦<RuleStack<'static> as RuleSet>⟧.meaning rules.new ≡ ⟦<RuleStack<'static> as RuleSet>⟧.meaning rules.old }
 {
     rules.propagate(rule, question)
 }

@@ -1,20 +1,27 @@
 -- Four drafts at most are laid one after the other.
-use Rattle.std.proofs.Common.{◌≡◌, ◌∷◌, map, length, vec_items, vec_len, ap, ◌∙◌, arith}
+use Rattle.std.proofs.Common.{◌≡◌, ◌∷◌, ◌+◌, ◌≤◌, map, length, vec_items, vec_len, sym, ap, ◌∙◌, subst, arith}
 use Rattle.std.specs.Vec.Iter.{into_iter_items, into_iter_len}
 use Rattle.entries.specs.Drafts.{drafted}
-use Rattle.folders.specs.Folders.{stack}
-use Rattle.rulestack.specs.Nested.{laid, over, sheets_mean}
+use Rattle.folders.specs.Folders.{folder, stack}
+use Rattle.folders.specs.declared.folder.Folder.{Folder}
+use Rattle.rulefile.specs.Held.{contents_in}
+use Rattle.rulefile.specs.declared.file.FileParts.{FileParts}
+use Rattle.ruleset.specs.Meaning.{Meaning}
+use Rattle.rulestack.specs.FileRules.{file_rules}
+use Rattle.rulestack.specs.Laid.{laid}
 use Rattle.rulestack.proofs.Layers.{few_rules, four_laid, one_less}
-use Rattle.rulestack.proofs.SheetsHeld.{beside, few_sheets, sheets_are}
+use Rattle.rulestack.proofs.SheetsHeld.{beside, few_sheets, sheets_are, sheets_mean}
 use Rattle.rulestack.proofs.building.build.Goals as goal
+
+-- a folder over something whose meaning is known
+abbrev over : {R : Type 0} → (R → Meaning) → Folder R → Meaning
+over below f = folder (drafted f.draft) (below f.below)
 
 pub lay-one-requires : goal.lay-one-requires
 lay-one-requires c =
-    let parts = c.into_parts-options.ensures in
-    few_sheets c.args.file c.new-sheets.result
-    (beside c.args.file c.new-sheets.ensures.first c.new-sheets.ensures.second
-    (c.new.ensures ∙ ap (λ v. vec_items v) parts.tables)
-    (c.new-2.ensures ∙ ap (λ v. vec_items v) parts.clauses))
+    let few = subst (λ (p : FileParts). vec_len p.tables + vec_len p.clauses ≤ 32) (sym c.into_parts-options.ensures) c.args.file.few in
+    few_sheets c.into_parts-options.result c.new-sheets.result few
+    (beside c.into_parts-options.result c.new-sheets.ensures.first c.new-sheets.ensures.second c.new.ensures c.new-2.ensures)
 
 pub lay-two-requires : goal.lay-two-requires
 lay-two-requires c = few_rules c.lay-one.result.draft (sheets_mean c.lay-one.result.below)
@@ -38,13 +45,12 @@ all_taken c =
     let s₂ = one_less c.next-2.result (into_iter_len it₁) (into_iter_len it₂) (λ x. into_iter_items it₁ ≡ x ∷ into_iter_items it₂) c.next-2.ensures.cases in
     let s₃ = one_less c.next-3.result (into_iter_len it₂) (into_iter_len it₃) (λ x. into_iter_items it₂ ≡ x ∷ into_iter_items it₃) c.next-3.ensures.cases in
     let s₄ = one_less c.next-4.result (into_iter_len it₃) (into_iter_len it₄) (λ x. into_iter_items it₃ ≡ x ∷ into_iter_items it₄) c.next-4.ensures.cases in
-    let whole = c.into_iter-drafts.ensures.len ∙ ap (λ v. vec_len v) c.into_parts-options.ensures.folders in
+    let whole = c.into_iter-drafts.ensures.len ∙ ap (λ (p : FileParts). vec_len p.folders) c.into_parts-options.ensures in
     omega (arith, s₁, s₂, s₃, s₄, whole, file.low, it₄.rest.ok.0)
 
 pub returns : goal.returns
 returns c =
-    let file = c.args.file in
-    let parts = c.into_parts-options.ensures in
+    let parts = c.into_parts-options.result in
     let m = sheets_mean c.new-sheets.result in
     let d₂ = c.next-2.result in
     let d₃ = c.next-3.result in
@@ -54,11 +60,10 @@ returns c =
     four_laid m it (into_iter_items c.next.new.self) (into_iter_items c.next-2.new.self)
     (into_iter_items c.next-3.new.self) (into_iter_items c.next-4.new.self) c.next.result d₂ d₃ d₄
     c.next.ensures.items c.next-2.ensures.items c.next-3.ensures.items c.next-4.ensures.items (all_taken c) in
-    let drafts = c.into_iter-drafts.ensures.rest ∙ ap (λ v. vec_items v) parts.folders in
     c.lay.ensures ∙ ap (laid d₄) c.lay-three.ensures ∙ ap (λ n. laid d₄ (laid d₃ n)) c.lay-two.ensures
     ∙ ap (λ n. laid d₄ (laid d₃ (laid d₂ n))) c.lay-one.ensures ∙ taken
-    ∙ ap (λ ds. stack (map drafted ds) m) drafts
-    ∙ ap (stack (map drafted (vec_items file.folders))) (sheets_are file c.new-sheets.result
-    (beside file c.new-sheets.ensures.first c.new-sheets.ensures.second
-    (c.new.ensures ∙ ap (λ v. vec_items v) parts.tables)
-    (c.new-2.ensures ∙ ap (λ v. vec_items v) parts.clauses)))
+    ∙ ap (λ ds. stack (map drafted ds) m) c.into_iter-drafts.ensures.rest
+    ∙ ap (stack (map drafted (vec_items parts.folders)))
+    (sheets_are parts c.new-sheets.result
+    (beside parts c.new-sheets.ensures.first c.new-sheets.ensures.second c.new.ensures c.new-2.ensures))
+    ∙ ap (λ (p : FileParts). file_rules (contents_in p)) c.into_parts-options.ensures

@@ -2,7 +2,7 @@
 use Rattle.std.proofs.Common.{sym, ap, ◌∙◌}
 use Rattle.entries.specs.Drafts.{drafted}
 use Rattle.folders.specs.Folders.{folder}
-use Rattle.rulestack.specs.Nested.{laid}
+use Rattle.rulestack.specs.Laid.{laid}
 use Rattle.rulestack.proofs.Layers.{carried}
 use Rattle.rulestack.proofs.building.lay.Goals as goal
 
