@@ -1,15 +1,14 @@
 // Reads the rule file RULES and says what it holds, or where and why it is bad.
 #![tactic(auto)]
 
-use refusals::FileFault;
 use rulefile::{Space, read};
 use std::io;
 use std::io::{BufWriter, Write};
 use std::process::ExitCode;
 
-mod entry;
 mod load;
 mod report;
+mod words;
 
 fn main(rt: HostRuntime) -> ExitCode {
     match run(&rt) {
@@ -26,18 +25,11 @@ fn run(rt: &HostRuntime) -> io::Result<()> {
     let mut buffer = vec![in heap; 0u8; load::LIMIT]?;
     let space = Space::reserve(heap)?;
     let mut out = BufWriter::new(heap, rt.stdout())?;
-    let length = load::load(rt, "RULES", &mut buffer);
-    match read(space, &buffer[0..length]) {
+    // A file that cannot be read to its end or to the end of the buffer is like one without bytes.
+    let bytes = load::load(rt, "RULES", &mut buffer).unwrap_or(&[]);
+    match read(space, bytes) {
         Ok(file) => report::report(&mut out, &file)?,
-        Err(fault) => refuse(&mut out, fault)?,
+        Err(fault) => writeln!(out, "{fault}")?,
     }
     out.flush()
-}
-
-fn refuse<W: Write>(out: &mut W, fault: FileFault) -> io::Result<()> {
-    let number = fault.refusal().number();
-    let layer = fault.layer().name();
-    let place = fault.place();
-    let item = fault.item();
-    writeln!(out, "refused {number} {layer} {place} {item}")
 }

@@ -1,6 +1,6 @@
 // What an accepted rule file holds, in aligned text.
-use crate::entry::write_entry;
-use assignment::{Assignment, Value};
+use crate::words::{InWords, Options};
+use assignment::{Assignment, has_bit};
 use entries::Entry;
 use rulefile::RuleFile;
 use sheets::{Clause, ClauseSheet, TableSheet};
@@ -10,43 +10,29 @@ use std::io::Write;
 pub(crate) fn report<W: Write>(out: &mut W, file: &RuleFile) -> io::Result<()> {
     let options = file.options();
     writeln!(out, "options {options}")?;
-    write_start(out, file.start(), options)?;
-    let mut rule = 0u32;
-    for sheet in file.tables() {
+    write_start(out, file.start())?;
+    for (rule, sheet) in file.tables().iter().enumerate() {
         write_table(out, rule, sheet)?;
-        rule = rule.wrapping_add(1);
     }
-    for sheet in file.clauses() {
-        write_clauses(out, rule, sheet)?;
-        rule = rule.wrapping_add(1);
+    let tables = file.tables().len();
+    for (index, sheet) in file.clauses().iter().enumerate() {
+        write_clauses(out, tables + index, sheet)?;
     }
-    for index in 0..file.folder_count() {
-        if let Some(entries) = file.folder(index) {
-            writeln!(out, "\nfolder {}", index + 1)?;
-            write_entries(out, entries)?;
-        }
+    for (index, folder) in file.folders().iter().enumerate() {
+        writeln!(out, "\nfolder {}", index + 1)?;
+        write_entries(out, folder.entries())?;
     }
     let asked = file.asked();
     writeln!(out, "\nasked: rule {asked}")
 }
 
-fn write_start<W: Write>(out: &mut W, start: Assignment, options: u32) -> io::Result<()> {
-    write!(out, "\nstart\n  yes:")?;
-    for option in 0..options {
-        if let Value::Yes = start.value(option) {
-            write!(out, " {option}")?;
-        }
-    }
-    write!(out, "\n  no: ")?;
-    for option in 0..options {
-        if let Value::No = start.value(option) {
-            write!(out, " {option}")?;
-        }
-    }
-    writeln!(out)
+fn write_start<W: Write>(out: &mut W, start: Assignment) -> io::Result<()> {
+    let yes = Options(start.yes_mask());
+    let no = Options(start.no_mask());
+    writeln!(out, "\nstart\n  yes:{yes}\n  no: {no}")
 }
 
-fn write_table<W: Write>(out: &mut W, rule: u32, sheet: &TableSheet) -> io::Result<()> {
+fn write_table<W: Write>(out: &mut W, rule: usize, sheet: &TableSheet) -> io::Result<()> {
     writeln!(out, "\nsheet {rule}: table")?;
     let columns = sheet.columns();
     write!(out, "  option")?;
@@ -54,11 +40,9 @@ fn write_table<W: Write>(out: &mut W, rule: u32, sheet: &TableSheet) -> io::Resu
         write!(out, "{column:>4}")?;
     }
     writeln!(out)?;
-    let mut number = 0u32;
-    for row in sheet.rows() {
+    for (number, row) in sheet.rows().enumerate() {
         write!(out, "  row {number:>3}")?;
         write_row(out, row, columns.len())?;
-        number = number.wrapping_add(1);
     }
     Ok(())
 }
@@ -73,25 +57,21 @@ fn write_row<W: Write>(out: &mut W, row: u16, columns: usize) -> io::Result<()> 
     writeln!(out)
 }
 
-fn write_clauses<W: Write>(out: &mut W, rule: u32, sheet: &ClauseSheet) -> io::Result<()> {
+fn write_clauses<W: Write>(out: &mut W, rule: usize, sheet: &ClauseSheet) -> io::Result<()> {
     writeln!(out, "\nsheet {rule}: clauses")?;
-    let mut number = 0u32;
-    for clause in sheet.clauses() {
+    for (number, clause) in sheet.clauses().enumerate() {
         write!(out, "  clause {number:>3}: ")?;
         write_clause(out, clause)?;
-        number = number.wrapping_add(1);
     }
     Ok(())
 }
 
 fn write_clause<W: Write>(out: &mut W, clause: Clause) -> io::Result<()> {
-    let mut is_first = true;
-    for wanted in clause {
-        let or = if is_first { "" } else { " or " };
+    for (index, wanted) in clause.enumerate() {
+        let or = if index == 0 { "" } else { " or " };
         let not = if wanted.negated { "not " } else { "" };
         let option = wanted.option;
         write!(out, "{or}{not}{option}")?;
-        is_first = false;
     }
     writeln!(out)
 }
@@ -99,9 +79,8 @@ fn write_clause<W: Write>(out: &mut W, clause: Clause) -> io::Result<()> {
 fn write_entries<W: Write>(out: &mut W, entries: &[Entry]) -> io::Result<()> {
     for (rule, entry) in entries.iter().enumerate() {
         let indent = if rule < 10 { "   " } else { "  " };
-        write!(out, "{indent}rule {rule}: ")?;
-        write_entry(out, *entry)?;
-        writeln!(out)?;
+        let entry = InWords(*entry);
+        writeln!(out, "{indent}rule {rule}: {entry}")?;
     }
     Ok(())
 }
