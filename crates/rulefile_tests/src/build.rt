@@ -3,6 +3,8 @@
 //   - `table:9`, the head of a table whose body has 9 bytes, and so with the other kinds;
 //   - `FOUR` and the other names below, a whole record;
 //   - `TABLE*32` or `0A0B*3`, a word so many times in a row.
+ghost use Rattle.std.specs.Prelude.{◌<◌, IfOk};
+
 use std::alloc::Global;
 use std::test::Fail;
 
@@ -78,24 +80,19 @@ fn add_head(bytes: &mut Vec<u8>, kind: &str, size: u16) -> Result<(), Fail> {
 }
 
 fn add_hex(bytes: &mut Vec<u8>, digits: &str) -> Result<(), Fail> {
-    let mut high = None;
-    for digit in digits.bytes() {
-        let value = hex_value(digit)?;
-        match high {
-            None => high = Some(value),
-            Some(sixteens) => {
-                bytes.push(value.wrapping_add(16u8.wrapping_mul(sixteens)))?;
-                high = None;
-            }
-        }
-    }
-    if high.is_some() {
+    let (pairs, half) = digits.as_bytes().as_chunks::<2>();
+    if !half.is_empty() {
         return Err(Fail::new("half a byte"));
+    }
+    for [high, low] in pairs {
+        bytes.push(16 * hex_value(*high)? + hex_value(*low)?)?;
     }
     Ok(())
 }
 
-fn hex_value(digit: u8) -> Result<u8, Fail> {
+fn hex_value(digit: u8) -> Result<u8, Fail>
+    ensures { IfOk result (λ value. value < 16) }
+{
     match digit {
         b'0'..=b'9' => Ok(digit - b'0'),
         b'A'..=b'F' => Ok(digit - b'A' + 10),

@@ -1,18 +1,19 @@
 // Accepted files give back what they hold.
 use crate::build::{SAMPLE, bytes_of};
-use crate::expect::{same_number, same_text};
+use crate::expect::expect_same;
 use crate::view::{show_clauses, show_folders, show_tables};
 use assignment::Value;
+use entries::Entry;
 use rulefile::{RuleFile, Space, read};
 use std::alloc::Global;
 use std::test::Fail;
 
 // The start and the asked rule.
 fn expect_start(file: &RuleFile, options: u32, yes: u64, no: u64, asked: u32) -> Result<(), Fail> {
-    same_number(file.options() as u64, options as u64, "options")?;
-    same_number(file.start().yes_mask(), yes, "start yes")?;
-    same_number(file.start().no_mask(), no, "start no")?;
-    same_number(file.asked() as u64, asked as u64, "asked rule")
+    expect_same(file.options(), options, "options")?;
+    expect_same(file.start().yes_mask(), yes, "start yes")?;
+    expect_same(file.start().no_mask(), no, "start no")?;
+    expect_same(file.asked(), asked, "asked rule")
 }
 
 // The layers, each shown as text.
@@ -23,13 +24,19 @@ fn expect_layers(
     clauses: &str,
     folders: &str,
 ) -> Result<(), Fail> {
-    same_text(show_tables(heap, file.tables())?.as_str(), tables, "tables")?;
-    same_text(
+    expect_same(show_tables(heap, file.tables())?.as_str(), tables, "tables")?;
+    expect_same(
         show_clauses(heap, file.clauses())?.as_str(),
         clauses,
         "clauses",
     )?;
-    same_text(show_folders(heap, file)?.as_str(), folders, "folders")?;
+    expect_same(show_folders(heap, file)?.as_str(), folders, "folders")?;
+    let lowest = file.folders().first().map(|folder| folder.entries().len());
+    expect_same(
+        file.folder(0).map(<[Entry]>::len),
+        lowest,
+        "entries of the lowest folder",
+    )?;
     if file.folder(file.folder_count()).is_some() {
         return Err(Fail::new("a folder past the last"));
     }
@@ -109,10 +116,9 @@ fn large_sheets(rt: HostRuntime) -> Result<(), Fail> {
         b"0123456789:;<=>?".as_slice(),
         "columns 48 to 63"
     );
-    let mut total = 0u64;
-    for row in table.rows() {
-        total = total.wrapping_add(u64::from(row));
-    }
+    let total = table
+        .rows()
+        .fold(0u64, |total, row| total.wrapping_add(u64::from(row)));
     assert_eq!(rt; table.rows().count(), 256);
     assert_eq!(rt; total, 255 * 0x8001 + 0xFFFF);
     Ok(())

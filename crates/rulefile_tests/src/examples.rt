@@ -10,10 +10,8 @@ fn changed(changes: &str) -> Result<[u8; 65], Fail> {
     for change in changes.split_whitespace() {
         let (place, value) = change.split_once('=').ok_or("no byte")?;
         let at = place.parse::<usize>()?;
-        if at >= 65 {
-            return Err(Fail::new("no such place"));
-        }
-        bytes[at] = u8::from_str_radix(value, 16)?;
+        let byte = bytes.get_mut(at).ok_or("no such place")?;
+        *byte = u8::from_str_radix(value, 16)?;
     }
     Ok(bytes)
 }
@@ -87,12 +85,10 @@ fn added_bytes(rt: HostRuntime) -> Result<(), Fail> {
 // The file is unfinished if that is their end, and cut if it is not.
 fn expect_cut(heap: Global, size: usize) -> Result<(), Fail> {
     let part = SAMPLE.get(0..size).ok_or("longer than the sample")?;
-    let mut place = 0;
-    for begin in [21, 34, 44, 60] {
-        if begin <= size {
-            place = begin;
-        }
-    }
+    let place = [60, 44, 34, 21]
+        .into_iter()
+        .find(|begin| *begin <= size)
+        .unwrap_or(0);
     let number = if place == size { 11 } else { 2 };
     let words = format!(in heap; "refused {number} record {place} 0")?;
     let case = format!(in heap; "the first {size} bytes")?;

@@ -1,8 +1,8 @@
 // Reading a file in a test, and comparing what is told of it.
 use crate::build::bytes_of;
-use refusals::FileFault;
 use rulefile::{Space, read};
 use std::alloc::{AllocError, Global};
+use std::fmt::Debug;
 use std::test::Fail;
 
 // What is told of a file: `options` and their number, or `refused` with number, layer, place and item.
@@ -13,22 +13,14 @@ fn told(heap: Global, bytes: &[u8]) -> Result<String, AllocError> {
             let options = file.options();
             format!(in heap; "options {options}")
         }
-        Err(fault) => describe(heap, fault),
+        Err(fault) => format!(in heap; "{fault}"),
     }
-}
-
-fn describe(heap: Global, fault: FileFault) -> Result<String, AllocError> {
-    let number = fault.refusal().number();
-    let layer = fault.layer().name();
-    let place = fault.place();
-    let item = fault.item();
-    format!(in heap; "refused {number} {layer} {place} {item}")
 }
 
 // These bytes are told of in these words.
 pub(crate) fn expect(heap: Global, case: &str, bytes: &[u8], words: &str) -> Result<(), Fail> {
     let answer = told(heap, bytes)?;
-    same_text(answer.as_str(), words, case)
+    expect_same(answer.as_str(), words, case)
 }
 
 // Each line is a case of three parts with `|` between them: what it is about, a file, and what is told of it.
@@ -43,17 +35,13 @@ pub(crate) fn expect_all(heap: Global, cases: &str) -> Result<(), Fail> {
 }
 
 // What was found is what the case wants.
-pub(crate) fn same_text(found: &str, wanted: &str, case: &str) -> Result<(), Fail> {
+pub(crate) fn expect_same<T: PartialEq + Debug + Copy>(
+    found: T,
+    wanted: T,
+    case: &str,
+) -> Result<(), Fail> {
     if found != wanted {
         return Err(Fail::new(format_args!("{case}: {found:?} is not {wanted:?}")));
-    }
-    Ok(())
-}
-
-// The same with numbers.
-pub(crate) fn same_number(found: u64, wanted: u64, case: &str) -> Result<(), Fail> {
-    if found != wanted {
-        return Err(Fail::new(format_args!("{case}: {found} is not {wanted}")));
     }
     Ok(())
 }
