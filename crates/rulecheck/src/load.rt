@@ -1,4 +1,6 @@
 // Loading the start of a file into memory that is there already.
+ghost use Rattle.std.specs.Prelude.{◌≤◌, length, IfOk};
+
 use std::fs::File;
 use std::io;
 use std::io::Read;
@@ -7,7 +9,9 @@ use std::io::Read;
 pub(crate) const LIMIT: usize = 32769;
 
 // Fills the buffer from the front, to the end of the file or of the buffer, and gives the bytes.
-pub(crate) fn load<'a>(rt: &HostRuntime, path: &str, buffer: &'a mut [u8]) -> io::Result<&'a [u8]> {
+pub(crate) fn load<'a>(rt: &HostRuntime, path: &str, buffer: &'a mut [u8]) -> io::Result<&'a [u8]>
+    ensures { IfOk result (λ bytes. length bytes.now ≤ length buffer.old) }
+{
     let mut file = File::open(rt, path)?;
     let mut filled = 0;
     while filled < buffer.len() {

@@ -76,7 +76,7 @@ impl<'a> Reader<'a> {
         ensures { seen so_far result ≡ judged (within in_folder (folder_checks (held self.entry).options (rules_of (held self.entry)) place body.now)) (kept 4 (with_folder body.now (held self.entry))) }
     {
         let rules = self.rules();
-        let Some(space) = self.spare.pop() else {
+        let Some(space) = self.spare.next() else {
             unreachable()
         };
         let draft = read_folder(space, body, place, self.file.parts.options, rules)?;

@@ -72,7 +72,7 @@ impl<'a> Reader<'a> {
                     asked: 0,
                 },
             },
-            spare,
+            spare: spare.into_iter(),
         }
     }
 

@@ -6,7 +6,7 @@ use Rattle.refusals.proofs.Judged.{judged_value, judged_within_err, judged_withi
 use Rattle.ruleformat.specs.Clauses.{clauses_checks, clauses_of, with_clauses}
 use Rattle.rulefile.specs.Held.{held, kept}
 use Rattle.sheets.specs.Views.{clause_body}
-use Rattle.rulefile.proofs.Parts.{map_grown, set_clauses}
+use Rattle.rulefile.proofs.Parts.{map_grown}
 use Rattle.rulefile.proofs.reader.Reader.keep_clauses.Goals as goal
 
 pub returns-in_err-sheet : goal.returns-in_err-sheet
@@ -28,5 +28,5 @@ returns c =
     let grown =
     map_grown clauses_of clause_body (vec_items r.file.parts.clauses) (vec_items c.push_reserved.new.self) sheet body
     c.push_reserved.ensures.items (judged_value checks body (clause_body sheet) passed) in
-    ap (λ ss. Ok (kept 3 (set_clauses (held r) ss))) grown
+    ap (λ ss. Ok (kept 3 (record (held r) { clauses = ss }))) grown
     ∙ sym (judged_within_ok body (kept 3 (with_clauses body (held r))) Sheet checks (clause_body sheet) passed)

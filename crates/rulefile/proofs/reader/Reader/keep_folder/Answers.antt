@@ -8,7 +8,7 @@ use Rattle.ruleformat.specs.Contents.{rules}
 use Rattle.ruleformat.specs.Folders.{entries_of, folder_checks, with_folder}
 use Rattle.rulefile.specs.Held.{held, kept}
 use Rattle.entries.specs.Drafts.{drafted}
-use Rattle.rulefile.proofs.Parts.{map_grown, set_folders}
+use Rattle.rulefile.proofs.Parts.{map_grown}
 use Rattle.rulefile.proofs.reader.Reader.keep_folder.Goals as goal
 
 -- the count of rules below, as it was found
@@ -35,5 +35,5 @@ returns c =
     let grown =
     map_grown (λ es. es) drafted (vec_items r.file.parts.folders) (vec_items c.push_reserved.new.self) draft (entries_of body)
     c.push_reserved.ensures.items (judged_value checks (entries_of body) (drafted draft) passed) in
-    ap (λ fs. Ok (kept 4 (set_folders (held r) fs))) grown
+    ap (λ fs. Ok (kept 4 (record (held r) { folders = fs }))) grown
     ∙ sym (judged_within_ok (entries_of body) (kept 4 (with_folder body (held r))) Folder checks (drafted draft) passed)

@@ -6,7 +6,7 @@ use Rattle.refusals.proofs.Judged.{judged_value, judged_within_err, judged_withi
 use Rattle.ruleformat.specs.Tables.{table_checks, table_of, with_table}
 use Rattle.rulefile.specs.Held.{held, kept}
 use Rattle.sheets.specs.Views.{table_body}
-use Rattle.rulefile.proofs.Parts.{map_grown, set_tables}
+use Rattle.rulefile.proofs.Parts.{map_grown}
 use Rattle.rulefile.proofs.reader.Reader.keep_table.Goals as goal
 
 pub returns-in_err-sheet : goal.returns-in_err-sheet
@@ -28,5 +28,5 @@ returns c =
     let grown =
     map_grown table_of table_body (vec_items r.file.parts.tables) (vec_items c.push_reserved.new.self) sheet body
     c.push_reserved.ensures.items (judged_value checks body (table_body sheet) passed) in
-    ap (λ ts. Ok (kept 2 (set_tables (held r) ts))) grown
+    ap (λ ts. Ok (kept 2 (record (held r) { tables = ts }))) grown
     ∙ sym (judged_within_ok body (kept 2 (with_table body (held r))) Sheet checks (table_body sheet) passed)
