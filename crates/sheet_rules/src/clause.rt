@@ -46,7 +46,12 @@ fn clause_adds(clause: Clause, question: Assignment) -> Option<Assignment>
 fn next_left(values: &mut Clause, question: Assignment) -> Option<Wanted>
     ensures { MatchOption result (left question (map wanted_of values.old.rest.now) ≡ []) (λ w. left question (map wanted_of values.old.rest.now) ≡ wanted_view w ∷ left question (map wanted_of values.new.rest.now)) }
 {
-    values.find(|wanted| !question.knows(wanted.option, wanted.negated))
+    while let Some(wanted) = values.next() {
+        if !question.knows(wanted.option, wanted.negated) {
+            return Some(wanted);
+        }
+    }
+    None
 }
 
 // Nothing is known of any option.
