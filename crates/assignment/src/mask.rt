@@ -10,7 +10,7 @@ ghost use Rattle.assignment.specs.Masks.{moved};
 pub fn has_bit(mask: u64, option: u32) -> bool
     ensures { result ≡ has mask option }
 {
-    // With `&&` in place of the return, many questions to a table took half as long again.
+    // With `&&` in place of the return, the loops that call this took up to half as long again.
     if option >= 64 {
         return false;
     }
