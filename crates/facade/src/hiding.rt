@@ -6,10 +6,8 @@ ghost use Rattle.facade.specs.Outcomes.{hides};
 ghost use Rattle.facade.specs.declared.failure.Failure.TheVariants.{Refused};
 
 use crate::failure::Failure;
-use entries::{Draft, EntryFields, EntrySpace};
+use entries::{Draft, EntryFields, EntrySpace, Op};
 use std::alloc::Global;
-
-const PROJECTION: u8 = 4;
 
 // The draft of a folder whose one entry hides these options, of so many, of the one rule below.
 pub(crate) fn hiding(heap: Global, options: u32, hidden: u64) -> Result<Draft, Failure>
@@ -18,7 +16,7 @@ pub(crate) fn hiding(heap: Global, options: u32, hidden: u64) -> Result<Draft, F
     let space = EntrySpace::reserve(heap)?;
     let mut draft = Draft::new(space, options, 1);
     draft.add(EntryFields {
-        op: PROJECTION,
+        op: Op::Projection as u8,
         first: 0,
         second: 0,
         third: 0,
