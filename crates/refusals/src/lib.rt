@@ -1,10 +1,12 @@
 // Why something is refused, by number, and the faults of a rule file, layer in layer. Uses no other crate.
 #![tactic(auto)]
 
+mod body;
 mod fault;
 mod layer;
 mod refusal;
 
+pub use body::Body;
 pub use fault::{FileFault, FolderFault, RecordFault, SheetFault};
 pub use layer::Layer;
 pub use refusal::Refusal;
