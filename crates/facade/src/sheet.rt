@@ -9,6 +9,7 @@ use crate::asking::answer_all;
 use crate::failure::Failure;
 use crate::hiding::hiding;
 use folders::Folder;
+use refusals::Body;
 use sheet_rules::{SheetRule, SheetRules};
 use sheets::Sheet;
 use std::alloc::Global;
@@ -52,7 +53,11 @@ fn rules_of<'a, S: Sheet<'a> + SheetRule>(
 ) -> Result<SheetRules<S>, Failure>
     ensures { MatchResult result (λ r. (passes (S.Sheet.checks options 0 body.now) ≡ true) × (map S.SheetBody.body_of (sheets_held r) ≡ body.now ∷ [])) (λ e. e ≡ Refused → passes (S.Sheet.checks options 0 body.now) ≡ false) }
 {
-    let sheet = S::read(body, 0, options)?;
+    let body = Body {
+        bytes: body,
+        place: 0,
+    };
+    let sheet = S::read(body, options)?;
     let mut sheets = Vec::with_capacity(heap, 1)?;
     sheets.push_reserved(sheet);
     Ok(SheetRules::new(sheets))

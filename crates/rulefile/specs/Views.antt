@@ -28,11 +28,11 @@ abbrev pub shown : (kind : ℕ) → List ℕ → (place : ℕ) → Shown
 shown k b p = record { kind = k; body = b; place = p }
 
 abbrev pub show : Record → Shown
-show (record_case.Start b p) = shown 1 b.now p
-show (record_case.Table b p) = shown 2 b.now p
-show (record_case.Clauses b p) = shown 3 b.now p
-show (record_case.Folder b p) = shown 4 b.now p
-show (record_case.Question b p) = shown 5 b.now p
+show (record_case.Start b) = shown 1 b.bytes.now b.place
+show (record_case.Table b) = shown 2 b.bytes.now b.place
+show (record_case.Clauses b) = shown 3 b.bytes.now b.place
+show (record_case.Folder b) = shown 4 b.bytes.now b.place
+show (record_case.Question b) = shown 5 b.bytes.now b.place
 
 -- the record that begins the bytes
 abbrev pub whole : ℕ → List ℕ → Shown

@@ -7,7 +7,7 @@ ghost use Rattle.rulefile.specs.Codes.{code};
 ghost use Rattle.rulefile.specs.Views.{show, shown, whole};
 
 use crate::kind::Kind;
-use refusals::{RecordFault, Refusal};
+use refusals::{Body, RecordFault, Refusal};
 
 const HEAD: usize = 4;
 
@@ -15,14 +15,14 @@ const MAX_SHEETS: usize = 32;
 
 const MAX_FOLDERS: usize = 4;
 
-/// A record by its kind, with the part of the file that is its body and the place of its first byte.
+/// A record by its kind, with its body and the place of its first byte.
 #[derive(Clone, Copy)]
 pub enum Record<'a> {
-    Start { body: &'a [u8], place: usize },
-    Table { body: &'a [u8], place: usize },
-    Clauses { body: &'a [u8], place: usize },
-    Folder { body: &'a [u8], place: usize },
-    Question { body: &'a [u8], place: usize },
+    Start(Body<'a>),
+    Table(Body<'a>),
+    Clauses(Body<'a>),
+    Folder(Body<'a>),
+    Question(Body<'a>),
 }
 
 /// What went before a record: the kind of the last one, 0 for none, and how many sheets and folders.
@@ -83,20 +83,21 @@ pub fn next_record<'a>(
     if rest.len() < HEAD + size {
         return Err(fault(Refusal::Cut));
     }
-    Ok(Record::of_kind(kind, &rest[HEAD..HEAD + size], place))
+    let bytes = &rest[HEAD..HEAD + size];
+    Ok(Record::of_kind(kind, Body { bytes, place }))
 }
 
 impl<'a> Record<'a> {
     // The record of this kind.
-    fn of_kind(kind: Kind, body: &'a [u8], place: usize) -> Record<'a>
-        ensures { show result ≡ shown (code kind) body.now place }
+    fn of_kind(kind: Kind, body: Body<'a>) -> Record<'a>
+        ensures { show result ≡ shown (code kind) body.entry.bytes.now body.entry.place }
     {
         match kind {
-            Kind::Start => Record::Start { body, place },
-            Kind::Table => Record::Table { body, place },
-            Kind::Clauses => Record::Clauses { body, place },
-            Kind::Folder => Record::Folder { body, place },
-            Kind::Question => Record::Question { body, place },
+            Kind::Start => Record::Start(body),
+            Kind::Table => Record::Table(body),
+            Kind::Clauses => Record::Clauses(body),
+            Kind::Folder => Record::Folder(body),
+            Kind::Question => Record::Question(body),
         }
     }
 
@@ -104,11 +105,11 @@ impl<'a> Record<'a> {
     pub(crate) fn size(self) -> usize
         ensures { result ≡ 4 + length (show self.entry).body }
     {
-        let (Record::Start { body, .. }
-        | Record::Table { body, .. }
-        | Record::Clauses { body, .. }
-        | Record::Folder { body, .. }
-        | Record::Question { body, .. }) = self;
-        HEAD + body.len()
+        let (Record::Start(body)
+        | Record::Table(body)
+        | Record::Clauses(body)
+        | Record::Folder(body)
+        | Record::Question(body)) = self;
+        HEAD + body.bytes.len()
     }
 }

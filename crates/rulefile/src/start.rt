@@ -6,7 +6,7 @@ ghost use Rattle.rulefile.specs.Views.{start_view, start_in};
 
 use crate::bytes::read_u64;
 use assignment::{Assignment, has_bit_from};
-use refusals::{FileFault, RecordFault, Refusal};
+use refusals::{Body, FileFault, Refusal};
 
 const START_SIZE: usize = 17;
 
@@ -19,17 +19,15 @@ pub(crate) struct Start {
 }
 
 // The start that a body holds, or why it is refused.
-pub(crate) fn read_start(body: &[u8], place: usize) -> Result<Start, FileFault>
-    ensures { seen start_view result ≡ judged (start_checks place body.now) (start_in body.now) }
+pub(crate) fn read_start(body: Body<'_>) -> Result<Start, FileFault>
+    ensures { seen start_view result ≡ judged (start_checks body.entry.place body.entry.bytes.now) (start_in body.entry.bytes.now) }
 {
+    let Body { bytes, place } = body;
     let fault = |refusal| FileFault::Start { refusal, place };
-    if body.len() != START_SIZE {
-        return Err(FileFault::Record(RecordFault {
-            refusal: Refusal::Unfit,
-            place,
-        }));
+    if bytes.len() != START_SIZE {
+        return Err(FileFault::Record(body.fault(Refusal::Unfit)));
     }
-    let options = body[0];
+    let options = bytes[0];
     if options == 0 {
         return Err(fault(Refusal::OutOfRange));
     }
@@ -37,7 +35,7 @@ pub(crate) fn read_start(body: &[u8], place: usize) -> Result<Start, FileFault>
         return Err(fault(Refusal::OutOfRange));
     }
     let options = u32::from(options);
-    let known = Assignment::new(read_u64(&body[1..9]), read_u64(&body[9..]));
+    let known = Assignment::new(read_u64(&bytes[1..9]), read_u64(&bytes[9..]));
     if has_bit_from(known.yes_mask(), options) {
         return Err(fault(Refusal::BeyondOptions));
     }

@@ -10,7 +10,7 @@ use crate::checks::check_option;
 use crate::counted::split_whole;
 use crate::sheet::{Sheet, SheetBody};
 use crate::walk::Clauses;
-use refusals::{RecordFault, Refusal, SheetFault};
+use refusals::{Body, RecordFault, Refusal, SheetFault};
 
 const MAX_CLAUSES: usize = 256;
 
@@ -27,10 +27,10 @@ impl SheetBody for ClauseSheet<'_> {
 impl<'a> Sheet<'a> for ClauseSheet<'a> {
     ghost checks = { clauses_checks };
 
-    fn read(body: &'a [u8], place: usize, options: u32) -> Result<ClauseSheet<'a>, SheetFault> {
-        check_shape(body, place)?;
-        check_clauses(body, place, options)?;
-        Ok(ClauseSheet { body })
+    fn read(body: Body<'a>, options: u32) -> Result<ClauseSheet<'a>, SheetFault> {
+        check_shape(body)?;
+        check_clauses(body, options)?;
+        Ok(ClauseSheet { body: body.bytes })
     }
 }
 
@@ -44,14 +44,11 @@ impl<'a> ClauseSheet<'a> {
 }
 
 // Each clause has its wanted values whole, and there are not too many of either.
-fn check_shape(body: &[u8], place: usize) -> Result<(), RecordFault>
-    ensures { result ≡ judged (when (unfit_clauses body.now) (at Unfit place) ∷ []) tt }
+fn check_shape(body: Body<'_>) -> Result<(), RecordFault>
+    ensures { result ≡ judged (when (unfit_clauses body.entry.bytes.now) (at Unfit body.entry.place) ∷ []) tt }
 {
-    let unfit = RecordFault {
-        refusal: Refusal::Unfit,
-        place,
-    };
-    let mut rest = body;
+    let unfit = body.fault(Refusal::Unfit);
+    let mut rest = body.bytes;
     for _ in 0..MAX_CLAUSES {
         if rest.is_empty() {
             return Ok(());
@@ -68,11 +65,11 @@ fn check_shape(body: &[u8], place: usize) -> Result<(), RecordFault>
 }
 
 // Every clause is checked, from the first on.
-fn check_clauses(body: &[u8], place: usize, options: u32) -> Result<(), SheetFault>
-    ensures { result ≡ judged (clause_checks options place 0 (clause_pieces body.now)) tt }
+fn check_clauses(body: Body<'_>, options: u32) -> Result<(), SheetFault>
+    ensures { result ≡ judged (clause_checks options body.entry.place 0 (clause_pieces body.entry.bytes.now)) tt }
 {
-    for (item, clause) in (Clauses { rest: body }).enumerate() {
-        check_wanted(clause.rest, place, item, options)?;
+    for (item, clause) in (Clauses { rest: body.bytes }).enumerate() {
+        check_wanted(clause.rest, body.place, item, options)?;
     }
     Ok(())
 }

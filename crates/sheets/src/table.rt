@@ -11,7 +11,7 @@ use crate::counted::{split_counted, split_whole};
 use crate::sheet::{Sheet, SheetBody};
 use crate::walk::Rows;
 use assignment::has_bit_from;
-use refusals::{RecordFault, Refusal, SheetFault};
+use refusals::{Body, RecordFault, Refusal, SheetFault};
 
 const MAX_ROW_BYTES: usize = 512;
 
@@ -28,11 +28,11 @@ impl SheetBody for TableSheet<'_> {
 impl<'a> Sheet<'a> for TableSheet<'a> {
     ghost checks = { table_checks };
 
-    fn read(body: &'a [u8], place: usize, options: u32) -> Result<TableSheet<'a>, SheetFault> {
-        let (columns, rows) = split_table(body, place)?;
-        check_columns(columns, place, options)?;
-        check_rows(rows, columns.len() as u32, place)?;
-        Ok(TableSheet { body })
+    fn read(body: Body<'a>, options: u32) -> Result<TableSheet<'a>, SheetFault> {
+        let (columns, rows) = split_table(body)?;
+        check_columns(columns, body.place, options)?;
+        check_rows(rows, columns.len() as u32, body.place)?;
+        Ok(TableSheet { body: body.bytes })
     }
 }
 
@@ -59,14 +59,11 @@ impl<'a> TableSheet<'a> {
 }
 
 // The columns and the rows, where the body has room for the columns and for whole rows.
-fn split_table(body: &[u8], place: usize) -> Result<(&[u8], &[u8]), RecordFault>
-    ensures { MatchResult result (λ p. (unfit_table body.now ≡ false) × (p.0.now ≡ columns_of body.now) × (p.1.now ≡ drop (1 + width_of body.now) body.now) × (length p.0.now ≡ width_of body.now) × (length p.0.now ≤ 16)) (λ e. (unfit_table body.now ≡ true) × (e ≡ at Unfit place)) }
+fn split_table(body: Body<'_>) -> Result<(&[u8], &[u8]), RecordFault>
+    ensures { MatchResult result (λ p. (unfit_table body.entry.bytes.now ≡ false) × (p.0.now ≡ columns_of body.entry.bytes.now) × (p.1.now ≡ drop (1 + width_of body.entry.bytes.now) body.entry.bytes.now) × (length p.0.now ≡ width_of body.entry.bytes.now) × (length p.0.now ≤ 16)) (λ e. (unfit_table body.entry.bytes.now ≡ true) × (e ≡ at Unfit body.entry.place)) }
 {
-    let unfit = RecordFault {
-        refusal: Refusal::Unfit,
-        place,
-    };
-    let (columns, rows) = split_whole(body).ok_or(unfit)?;
+    let unfit = body.fault(Refusal::Unfit);
+    let (columns, rows) = split_whole(body.bytes).ok_or(unfit)?;
     if rows.len() % 2 == 1 || rows.len() > MAX_ROW_BYTES {
         return Err(unfit);
     }

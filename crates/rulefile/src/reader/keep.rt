@@ -16,7 +16,7 @@ use crate::folder::read_folder;
 use crate::kind::Kind;
 use crate::record::Record;
 use crate::start::read_start;
-use refusals::{FileFault, RecordFault, Refusal};
+use refusals::{Body, FileFault, Refusal};
 use sheets::{ClauseSheet, Sheet, TableSheet};
 
 impl<'a> Reader<'a> {
@@ -26,19 +26,19 @@ impl<'a> Reader<'a> {
         ensures { seen so_far result ≡ judged (body_checks (show next.entry).kind (show next.entry).place (show next.entry).body (held self.entry)) (kept (show next.entry).kind (with_record (show next.entry).kind (show next.entry).body (held self.entry))) }
     {
         match next {
-            Record::Start { body, place } => self.keep_start(body, place),
-            Record::Table { body, place } => self.keep_table(body, place),
-            Record::Clauses { body, place } => self.keep_clauses(body, place),
-            Record::Folder { body, place } => self.keep_folder(body, place),
-            Record::Question { body, place } => self.keep_question(body, place),
+            Record::Start(body) => self.keep_start(body),
+            Record::Table(body) => self.keep_table(body),
+            Record::Clauses(body) => self.keep_clauses(body),
+            Record::Folder(body) => self.keep_folder(body),
+            Record::Question(body) => self.keep_question(body),
         }
     }
 
     // The number of options and what is known of them from the outset.
-    fn keep_start(mut self, body: &[u8], place: usize) -> Result<Reader<'a>, FileFault>
-        ensures { seen so_far result ≡ judged (start_checks place body.now) (kept 1 (with_start body.now (held self.entry))) }
+    fn keep_start(mut self, body: Body<'_>) -> Result<Reader<'a>, FileFault>
+        ensures { seen so_far result ≡ judged (start_checks body.entry.place body.entry.bytes.now) (kept 1 (with_start body.entry.bytes.now (held self.entry))) }
     {
-        let start = read_start(body, place)?;
+        let start = read_start(body)?;
         let file = &mut self.file;
         file.parts.options = start.options;
         file.parts.start = start.known;
@@ -47,11 +47,11 @@ impl<'a> Reader<'a> {
     }
 
     // One table sheet more.
-    fn keep_table(mut self, body: &'a [u8], place: usize) -> Result<Reader<'a>, FileFault>
+    fn keep_table(mut self, body: Body<'a>) -> Result<Reader<'a>, FileFault>
         requires { Ready self 2 }
-        ensures { seen so_far result ≡ judged (within in_sheet (table_checks (held self.entry).options place body.entry.now)) (kept 2 (with_table body.entry.now (held self.entry))) }
+        ensures { seen so_far result ≡ judged (within in_sheet (table_checks (held self.entry).options body.entry.place body.entry.bytes.now)) (kept 2 (with_table body.entry.bytes.now (held self.entry))) }
     {
-        let sheet = TableSheet::read(body, place, self.file.parts.options)?;
+        let sheet = TableSheet::read(body, self.file.parts.options)?;
         let file = &mut self.file;
         file.parts.tables.push_reserved(sheet);
         self.last = Some(Kind::Table);
@@ -59,11 +59,11 @@ impl<'a> Reader<'a> {
     }
 
     // One clause sheet more.
-    fn keep_clauses(mut self, body: &'a [u8], place: usize) -> Result<Reader<'a>, FileFault>
+    fn keep_clauses(mut self, body: Body<'a>) -> Result<Reader<'a>, FileFault>
         requires { Ready self 3 }
-        ensures { seen so_far result ≡ judged (within in_sheet (clauses_checks (held self.entry).options place body.entry.now)) (kept 3 (with_clauses body.entry.now (held self.entry))) }
+        ensures { seen so_far result ≡ judged (within in_sheet (clauses_checks (held self.entry).options body.entry.place body.entry.bytes.now)) (kept 3 (with_clauses body.entry.bytes.now (held self.entry))) }
     {
-        let sheet = ClauseSheet::read(body, place, self.file.parts.options)?;
+        let sheet = ClauseSheet::read(body, self.file.parts.options)?;
         let file = &mut self.file;
         file.parts.clauses.push_reserved(sheet);
         self.last = Some(Kind::Clauses);
@@ -71,15 +71,15 @@ impl<'a> Reader<'a> {
     }
 
     // One folder more, over the rules so far.
-    fn keep_folder(mut self, body: &[u8], place: usize) -> Result<Reader<'a>, FileFault>
+    fn keep_folder(mut self, body: Body<'_>) -> Result<Reader<'a>, FileFault>
         requires { Ready self 4 }
-        ensures { seen so_far result ≡ judged (within in_folder (folder_checks (held self.entry).options (rules_of (held self.entry)) place body.now)) (kept 4 (with_folder body.now (held self.entry))) }
+        ensures { seen so_far result ≡ judged (within in_folder (folder_checks (held self.entry).options (rules_of (held self.entry)) body.entry.place body.entry.bytes.now)) (kept 4 (with_folder body.entry.bytes.now (held self.entry))) }
     {
         let rules = self.rules();
         let Some(space) = self.spare.next() else {
             unreachable()
         };
-        let draft = read_folder(space, body, place, self.file.parts.options, rules)?;
+        let draft = read_folder(space, body, self.file.parts.options, rules)?;
         let file = &mut self.file;
         file.parts.folders.push_reserved(draft);
         self.last = Some(Kind::Folder);
@@ -87,21 +87,18 @@ impl<'a> Reader<'a> {
     }
 
     // The asked rule.
-    fn keep_question(mut self, body: &[u8], place: usize) -> Result<Reader<'a>, FileFault>
+    fn keep_question(mut self, body: Body<'_>) -> Result<Reader<'a>, FileFault>
         requires { Ready self 5 }
-        ensures { seen so_far result ≡ judged (question_checks (rules_of (held self.entry)) place body.now) (kept 5 (with_question body.now (held self.entry))) }
+        ensures { seen so_far result ≡ judged (question_checks (rules_of (held self.entry)) body.entry.place body.entry.bytes.now) (kept 5 (with_question body.entry.bytes.now (held self.entry))) }
     {
-        let [asked] = body else {
-            return Err(FileFault::Record(RecordFault {
-                refusal: Refusal::Unfit,
-                place,
-            }));
+        let [asked] = body.bytes else {
+            return Err(FileFault::Record(body.fault(Refusal::Unfit)));
         };
         let asked = u32::from(*asked);
         if asked >= self.rules() {
             return Err(FileFault::Question {
                 refusal: Refusal::NoSuchRule,
-                place,
+                place: body.place,
             });
         }
         self.file.parts.asked = asked;

@@ -91,7 +91,7 @@ loop-item-init c =
     let none = c.requires.empty in
     record {
       decides = refl;
-      added = ap (λ es. es ++ entries_of c.args.body.now) none;
+      added = ap (λ es. es ++ entries_of c.args.body.bytes.now) none;
       count = ap length none;
       options = refl;
       below = refl;
@@ -101,7 +101,7 @@ pub returns-in_err-map_err-clause-answer : goal.returns-in_err-map_err-clause-an
 returns-in_err-map_err-clause-answer c =
     let d = c.loop-item.draft in
     let i = c.loop-item.item-counter in
-    let body = c.args.body.now in
+    let body = c.args.body.bytes.now in
     let inv = c.loop-item.invariant in
     let n = c.args.draft.now.options in
     let below = c.args.draft.now.below in
@@ -110,8 +110,8 @@ returns-in_err-map_err-clause-answer c =
     let room : vec_len d.entries < 32 = omega (arith, d.entries.ok.0, inv.count, c.requires.whole) in
     let fields = fields_at body i inside c.as_chunks.ensures.front c.read_fields.ensures in
     let own = added d c.read_fields.result n below (drop (12 * i) body) fields inv.options inv.below room c.requires.told.0 c.requires.told.1 in
-    let told = mapped c.args.place i (entry_checks n below (fields_of (drop (12 * i) body))) c.map_err.ensures.cases (λ e f k. search rules) (c.add.ensures.answer ∙ own) in
-    let e = entry_stops n below c.args.place i body some c.in_err-map_err.field-0.0 (sym c.in_err-map_err.was ∙ told) in
+    let told = mapped c.args.body.place i (entry_checks n below (fields_of (drop (12 * i) body))) c.map_err.ensures.cases (λ e f k. search rules) (c.add.ensures.answer ∙ own) in
+    let e = entry_stops n below c.args.body.place i body some c.in_err-map_err.field-0.0 (sym c.in_err-map_err.was ∙ told) in
     let p = err_from_is_err_and c.from_residual.result c.from_residual.ensures.1 in
     rw (p.1, p.2) (sym e ∙ inv.decides)
 
@@ -120,7 +120,7 @@ loop-item-preserved c =
     let d = c.loop-item.draft in
     let d' = c.add.new.self in
     let i = c.loop-item.item-counter in
-    let body = c.args.body.now in
+    let body = c.args.body.bytes.now in
     let inv = c.loop-item.invariant in
     let n = c.args.draft.now.options in
     let below = c.args.draft.now.below in
@@ -129,14 +129,14 @@ loop-item-preserved c =
     let room : vec_len d.entries < 32 = omega (arith, d.entries.ok.0, inv.count, c.requires.whole) in
     let fields = fields_at body i inside c.as_chunks.ensures.front c.read_fields.ensures in
     let own = added d c.read_fields.result n below (drop (12 * i) body) fields inv.options inv.below room c.requires.told.0 c.requires.told.1 in
-    let told = mapped c.args.place i (entry_checks n below (fields_of (drop (12 * i) body))) c.map_err.ensures.cases (λ e f k. search rules) (c.add.ensures.answer ∙ own) in
-    let e = entry_passes n below c.args.place i body some (sym c.in_ok-map_err.was ∙ told) in
+    let told = mapped c.args.body.place i (entry_checks n below (fields_of (drop (12 * i) body))) c.map_err.ensures.cases (λ e f k. search rules) (c.add.ensures.answer ∙ own) in
+    let e = entry_passes n below c.args.body.place i body some (sym c.in_ok-map_err.was ∙ told) in
     let ok : c.add.result ≡ Ok tt = was_added _ c.map_err.ensures.cases c.in_ok-map_err.was in
     let grown : drafted d' ≡ drafted d ++ entry_in (drop (12 * i) body) ∷ [] = rw (ok, fields) at c.add.ensures.entries in
     let all =
     ap (λ es. es ++ entries_of (drop (12 * (i + 1)) body)) grown
     ∙ append_assoc (drafted d) (entry_in (drop (12 * i) body) ∷ []) (entries_of (drop (12 * (i + 1)) body))
-    ∙ ap (λ ps. drafted d ++ map entry_in ps) (sym (split n below c.args.place i body some)) ∙ inv.added in
+    ∙ ap (λ ps. drafted d ++ map entry_in ps) (sym (split n below c.args.body.place i body some)) ∙ inv.added in
     record {
       decides = sym e ∙ inv.decides;
       added = all;
@@ -154,15 +154,15 @@ returns-clause-answer c =
     let i = c.loop-item.item-counter in
     let n = c.args.draft.now.options in
     let below = c.args.draft.now.below in
-    let body = c.args.body.now in
+    let body = c.args.body.bytes.now in
     let past : length body / 12 ≤ i = omega (arith, c.as_chunks.ensures.front_len, c.loop-item-test.false) in
     let none = none_left body i past c.requires.whole.0 in
-    ap (λ zs. judged (entries_checks n below c.args.place i (entry_pieces zs)) (tt {0})) (sym none) ∙ c.loop-item.invariant.decides
+    ap (λ zs. judged (entries_checks n below c.args.body.place i (entry_pieces zs)) (tt {0})) (sym none) ∙ c.loop-item.invariant.decides
 
 pub returns-clause-entries : goal.returns-clause-entries
 returns-clause-entries c =
     let i = c.loop-item.item-counter in
-    let body = c.args.body.now in
+    let body = c.args.body.bytes.now in
     let past : length body / 12 ≤ i = omega (arith, c.as_chunks.ensures.front_len, c.loop-item-test.false) in
     let none = none_left body i past c.requires.whole.0 in
     sym (append-nil (drafted c.loop-item.draft)) ∙ ap (λ zs. drafted c.loop-item.draft ++ entries_of zs) (sym none) ∙ c.loop-item.invariant.added

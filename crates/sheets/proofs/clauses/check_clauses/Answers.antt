@@ -29,8 +29,8 @@ loop-item-preserved c =
     let found = rw told.1 at (sym c.check_wanted.ensures ∙ c.in_ok-check_wanted.was) in (
       c.in-Some.ensures.goes.keeps,
       tt,
-      ap (λ k. judged (clause_checks c.args.options c.args.place k rest) (tt {0})) told.2
-          ∙ sym (clause_passes c.args.options c.args.place i xs c.in-Some.clause.rest.now rest (clause_pieces xs) told.0.0 told.0.1 found)
+      ap (λ k. judged (clause_checks c.args.options c.args.body.place k rest) (tt {0})) told.2
+          ∙ sym (clause_passes c.args.options c.args.body.place i xs c.in-Some.clause.rest.now rest (clause_pieces xs) told.0.0 told.0.1 found)
           ∙ c.loop-item.invariant.2,
     )
 
@@ -42,6 +42,6 @@ returns-in_err-check_wanted c =
     let told = c.in-Some.ensures.steps in
     let fault = c.in_err-check_wanted.field-0.0 in
     let found = rw told.1 at (sym c.check_wanted.ensures ∙ c.in_err-check_wanted.was) in
-    let e = clause_stops c.args.options c.args.place i xs c.in-Some.clause.rest.now rest (clause_pieces xs) told.0.0 told.0.1 fault found in
+    let e = clause_stops c.args.options c.args.body.place i xs c.in-Some.clause.rest.now rest (clause_pieces xs) told.0.0 told.0.1 fault found in
     let p = err_from_is_err_and c.from_residual.result c.from_residual.ensures.1 in
     cc (p.1, p.2, e, c.loop-item.invariant.2)

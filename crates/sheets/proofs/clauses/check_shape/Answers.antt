@@ -13,7 +13,7 @@ loop-preserved c =
     let h = c.in-Some.ensures in
     let Kept : List ℕ → Type 0 =
     λ ys.
-    (any_unfit (clause_pieces ys) ≡ any_unfit (clause_pieces c.args.body.now))
-    × ((c.loop.counter + 1) + length (clause_pieces ys) ≡ length (clause_pieces c.args.body.now)) in
+    (any_unfit (clause_pieces ys) ≡ any_unfit (clause_pieces c.args.body.bytes.now))
+    × ((c.loop.counter + 1) + length (clause_pieces ys) ≡ length (clause_pieces c.args.body.bytes.now)) in
     subst Kept (sym h.2)
     (simp h.0 at (sym (ap any_unfit more)) ∙ c.loop.invariant.0, omega (arith, ap length more))

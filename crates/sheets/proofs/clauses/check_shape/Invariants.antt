@@ -5,5 +5,5 @@ use Rattle.sheets.proofs.clauses.check_shape.Given as goal
 
 abbrev pub invariant-loop : goal.invariant-loop
 invariant-loop l =
-    (any_unfit (clause_pieces l.rest) ≡ any_unfit (clause_pieces l.body))
-    × (l.counter + length (clause_pieces l.rest) ≡ length (clause_pieces l.body))
+    (any_unfit (clause_pieces l.rest) ≡ any_unfit (clause_pieces l.body.bytes.now))
+    × (l.counter + length (clause_pieces l.rest) ≡ length (clause_pieces l.body.bytes.now))

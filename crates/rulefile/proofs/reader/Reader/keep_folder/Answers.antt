@@ -18,9 +18,9 @@ same_rules n place body e = ap (λ m. judged (folder_checks n m place body) (ent
 pub returns-in_err-draft : goal.returns-in_err-draft
 returns-in_err-draft c =
     let r = c.args.self in
-    let body = c.args.body.now in
-    let checks = folder_checks r.file.parts.options (rules (held r)) c.args.place body in
-    let told = same_rules r.file.parts.options c.args.place body c.rules-rules.ensures ∙ sym c.in_err-draft.ensures in
+    let body = c.args.body.bytes.now in
+    let checks = folder_checks r.file.parts.options (rules (held r)) c.args.body.place body in
+    let told = same_rules r.file.parts.options c.args.body.place body c.rules-rules.ensures ∙ sym c.in_err-draft.ensures in
     let e = judged_within_err (entries_of body) (kept 4 (with_folder body (held r))) Folder checks c.in_err-draft.field-0.0 told in
     let p = err_from_is_err_and c.from_residual.result c.from_residual.ensures.1 in
     rw (p.1, p.2) (sym e)
@@ -28,10 +28,10 @@ returns-in_err-draft c =
 pub returns : goal.returns
 returns c =
     let r = c.args.self in
-    let body = c.args.body.now in
+    let body = c.args.body.bytes.now in
     let draft = c.in_ok-draft.draft in
-    let checks = folder_checks r.file.parts.options (rules (held r)) c.args.place body in
-    let passed = same_rules r.file.parts.options c.args.place body c.rules-rules.ensures ∙ sym c.in_ok-draft.ensures in
+    let checks = folder_checks r.file.parts.options (rules (held r)) c.args.body.place body in
+    let passed = same_rules r.file.parts.options c.args.body.place body c.rules-rules.ensures ∙ sym c.in_ok-draft.ensures in
     let grown =
     map_grown (λ es. es) drafted (vec_items r.file.parts.folders) (vec_items c.push_reserved.new.self) draft (entries_of body)
     c.push_reserved.ensures.items (judged_value checks (entries_of body) (drafted draft) passed) in

@@ -12,8 +12,8 @@ use Rattle.rulefile.proofs.reader.Reader.keep_table.Goals as goal
 pub returns-in_err-sheet : goal.returns-in_err-sheet
 returns-in_err-sheet c =
     let r = c.args.self in
-    let body = c.args.body.now in
-    let checks = table_checks r.file.parts.options c.args.place body in
+    let body = c.args.body.bytes.now in
+    let checks = table_checks r.file.parts.options c.args.body.place body in
     let e = judged_within_err body (kept 2 (with_table body (held r))) Sheet checks c.in_err-sheet.field-0.0 (sym c.in_err-sheet.ensures) in
     let p = err_from_is_err_and c.from_residual.result c.from_residual.ensures.1 in
     rw (p.1, p.2) (sym e)
@@ -21,9 +21,9 @@ returns-in_err-sheet c =
 pub returns : goal.returns
 returns c =
     let r = c.args.self in
-    let body = c.args.body.now in
+    let body = c.args.body.bytes.now in
     let sheet = c.in_ok-sheet.sheet in
-    let checks = table_checks r.file.parts.options c.args.place body in
+    let checks = table_checks r.file.parts.options c.args.body.place body in
     let passed = sym c.in_ok-sheet.ensures in
     let grown =
     map_grown table_of table_body (vec_items r.file.parts.tables) (vec_items c.push_reserved.new.self) sheet body

@@ -27,30 +27,30 @@ pub returns-in_err-check_columns : goal.returns-in_err-check_columns
 returns-in_err-check_columns c =
     let t = c.in_ok-columns.ensures in
     let e =
-    columns_stop c.args.options c.args.place c.args.body.now c.in_ok-columns.columns.now c.in_ok-columns.rows.now t.0 t.1 t.2 t.3
+    columns_stop c.args.options c.args.body.place c.args.body.bytes.now c.in_ok-columns.columns.now c.in_ok-columns.rows.now t.0 t.1 t.2 t.3
     c.in_err-check_columns.field-0.0 (sym c.check_columns.ensures ∙ c.in_err-check_columns.was) in
     let p = err_from_is_err_and c.from_residual-in_err-check_columns.result c.from_residual-in_err-check_columns.ensures.1 in
     rw (p.1, p.2) (sym e)
 
 pub returns-in_err-check_rows : goal.returns-in_err-check_rows
 returns-in_err-check_rows c =
-    let body = c.args.body.now in
+    let body = c.args.body.bytes.now in
     let t = c.in_ok-columns.ensures in
     let columns = c.in_ok-columns.columns.now in
     let rows = c.in_ok-columns.rows.now in
     let told = c.in_err-check_rows.field-0.0 in
     let e =
-    columns_pass c.args.options c.args.place body columns rows t.0 t.1 t.2 t.3 (sym c.check_columns.ensures ∙ c.in_ok-check_columns.was)
-    ∙ judged_err (tt {0}) body (row_checks (length columns) c.args.place 0 (rows_in rows)) told (sym c.check_rows.ensures ∙ c.in_err-check_rows.was) in
+    columns_pass c.args.options c.args.body.place body columns rows t.0 t.1 t.2 t.3 (sym c.check_columns.ensures ∙ c.in_ok-check_columns.was)
+    ∙ judged_err (tt {0}) body (row_checks (length columns) c.args.body.place 0 (rows_in rows)) told (sym c.check_rows.ensures ∙ c.in_err-check_rows.was) in
     let p = err_from_is_err_and c.from_residual-in_err-check_rows.result c.from_residual-in_err-check_rows.ensures.1 in
     rw (p.1, p.2) (sym e)
 
 pub returns : goal.returns
 returns c =
-    let body = c.args.body.now in
+    let body = c.args.body.bytes.now in
     let t = c.in_ok-columns.ensures in
     let columns = c.in_ok-columns.columns.now in
     let rows = c.in_ok-columns.rows.now in
     sym
-    (columns_pass c.args.options c.args.place body columns rows t.0 t.1 t.2 t.3 (sym c.check_columns.ensures ∙ c.in_ok-check_columns.was)
-    ∙ judged_ok (tt {0}) body (row_checks (length columns) c.args.place 0 (rows_in rows)) tt (sym c.check_rows.ensures ∙ c.in_ok-check_rows.was))
+    (columns_pass c.args.options c.args.body.place body columns rows t.0 t.1 t.2 t.3 (sym c.check_columns.ensures ∙ c.in_ok-check_columns.was)
+    ∙ judged_ok (tt {0}) body (row_checks (length columns) c.args.body.place 0 (rows_in rows)) tt (sym c.check_rows.ensures ∙ c.in_ok-check_rows.was))
