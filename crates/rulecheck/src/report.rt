@@ -1,6 +1,6 @@
 // What an accepted rule file holds, in aligned text.
 use crate::words::{InWords, Options};
-use assignment::{Assignment, has_bit};
+use assignment::Assignment;
 use entries::Entry;
 use rulefile::RuleFile;
 use sheets::{Clause, ClauseSheet, TableSheet};

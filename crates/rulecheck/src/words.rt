@@ -3,7 +3,7 @@ use assignment::has_bit;
 use entries::Entry;
 use std::fmt;
 
-/// The options of a mask, each after a space.
+// The options of a mask, each after a space.
 #[derive(Clone, Copy)]
 pub(crate) struct Options(pub(crate) u64);
 
@@ -18,7 +18,7 @@ impl fmt::Display for Options {
     }
 }
 
-/// A folder's entry in words.
+// A folder's entry in words.
 #[derive(Clone, Copy)]
 pub(crate) struct InWords(pub(crate) Entry);
 

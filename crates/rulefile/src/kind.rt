@@ -4,8 +4,8 @@ ghost use Rattle.refusals.specs.Checks.{judged, seen, when};
 ghost use Rattle.ruleformat.specs.Kinds.{unknown};
 ghost use Rattle.rulefile.specs.Codes.{code, no_kind};
 
-/// The kinds in the order in which records come, each with the number that stands in a record's head.
-#[derive(Clone, Copy, Debug, PartialEq, Eq, PartialOrd, Ord)]
+// The kinds in the order in which records come, each with the number that stands in a record's head.
+#[derive(Clone, Copy, Debug, PartialEq, Eq)]
 pub(crate) enum Kind {
     Start = 1,
     Table = 2,
@@ -14,7 +14,7 @@ pub(crate) enum Kind {
     Question = 5,
 }
 
-/// A number that stands for no kind.
+// A number that stands for no kind.
 #[derive(Clone, Copy, Debug, PartialEq, Eq)]
 pub(crate) struct UnknownKind;
 

@@ -31,14 +31,7 @@ fn case(op: u8, first: u8, second: u8, third: u8, word: u64, answer: Result<(), 
 // Adds entries in their order. A refused one leaves the draft as it was.
 fn add_each(heap: Global, draft: &mut Draft, cases: &[Trial]) -> Result<(), Fail> {
     for Trial { fields, answer } in cases {
-        let EntryFields {
-            op,
-            first,
-            second,
-            third,
-            word,
-        } = *fields;
-        let about = format!(in heap; "{op} {first} {second} {third} {word}")?;
+        let about = format!(in heap; "{fields:?}")?;
         let before = show_draft(heap, draft)?;
         let found = draft.add(*fields).map_err(Refusal::number);
         expect_same(found, *answer, about.as_str())?;

@@ -40,8 +40,11 @@ pub(crate) fn show_clauses(heap: Global, sheets: &[ClauseSheet]) -> Result<Strin
 // For each folder its entries.
 pub(crate) fn show_folders(heap: Global, file: &RuleFile) -> Result<String, AllocError> {
     let mut text = String::new(heap);
-    for folder in file.folders() {
-        text.push_str(show_entries(heap, folder.entries())?.as_str())?;
+    for index in 0..file.folder_count() {
+        match file.folder(index) {
+            Some(entries) => text.push_str(show_entries(heap, entries)?.as_str())?,
+            None => text.push_str("missing")?,
+        }
         text.push_str(". ")?;
     }
     Ok(text)
