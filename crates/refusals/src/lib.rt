@@ -1,4 +1,5 @@
-// Why something is refused, by number, and the faults of a rule file, layer in layer. Uses no other crate.
+// Why something is refused, by number, the faults of a rule file, layer in layer, and the body of a record, at whose
+// place a fault is. Uses no other crate.
 #![tactic(auto)]
 
 mod body;
