@@ -1,8 +1,8 @@
 -- How bytes are cut into pieces: one piece at a time, pieces of one size, pieces that are joined, and pieces that are encoded again.
-use Rattle.std.proofs.Common.{◌≡◌, ℕ, zero, suc, ◌+◌, ◌-◌, ◌*◌, ◌<◌, ◌≤◌, List, [], ◌∷◌, ◌++◌, map, length, get_or, take, drop, sym, refl, ap, ◌∙◌, subst, not-suc-le-zero, suc-mul, add-one, arith, drop-cons}
+use Rattle.std.proofs.Common.{◌≡◌, ℕ, zero, suc, ◌+◌, ◌-◌, ◌*◌, ◌<◌, ◌≤◌, List, [], ◌∷◌, ◌++◌, map, length, take, drop, sym, refl, ap, ◌∙◌, subst, not-suc-le-zero, suc-mul, arith}
 use Rattle.std.specs.List.{flat_map}
 use Rattle.std.proofs.lemmas.List.{drop_at, length-append, length-drop, nil_from_length, take-append-drop}
-use Rattle.ruleformat.specs.Bytes.{number, pieces}
+use Rattle.ruleformat.specs.Bytes.{pieces}
 use Rattle.ruleformat.specs.WellFormed.{Each}
 
 pieces_skip : (size : List ℕ → ℕ) (k : ℕ) (bs : List ℕ) → pieces size k bs ≡ pieces size 0 (drop k bs)
@@ -65,7 +65,3 @@ module _ {X : Type 0} (size : List ℕ → ℕ) (f : List ℕ → X) (g : X → 
       ∙ ap (λ ys. ys ++ flat_map g (map f (pieces size 0 (drop n rest)))) h.0.2
       ∙ ap (λ ys. take n rest ++ ys) (pieces_encoded k (drop n rest) s t.1)
       ∙ take-append-drop n rest
-
--- the number of the next bytes, one byte at a time
-pub number_more : (xs : List ℕ) (i k : ℕ) → i < length xs → number (take (suc k) (drop i xs)) ≡ get_or xs i 0 + 256 * number (take k (drop (i + 1) xs))
-number_more xs i k h = rw (add-one, drop-cons xs i 0)
