@@ -1,7 +1,9 @@
-// Reads the rule file RULES and says what it holds, or where and why it is bad.
+// Reads the rule file RULES and says what it holds and what its asked rule replies to the start, or where and why it is
+// bad.
 #![tactic(auto)]
 
-use rulefile::{Space, read};
+use rulefile::{RuleFile, Space, read};
+use rulestack::{StackSpace, ask, build};
 use std::io;
 use std::io::{BufWriter, Write};
 use std::process::ExitCode;
@@ -24,12 +26,23 @@ fn run(rt: &HostRuntime) -> io::Result<()> {
     let heap = rt.alloc();
     let mut buffer = vec![in heap; 0u8; load::LIMIT]?;
     let space = Space::reserve(heap)?;
+    let stack_space = StackSpace::reserve(heap)?;
     let mut out = BufWriter::new(heap, rt.stdout())?;
     // A file that cannot be read to its end or to the end of the buffer is like one without bytes.
     let bytes = load::load(rt, "RULES", &mut buffer).unwrap_or(&[]);
     match read(space, bytes) {
-        Ok(file) => report::report(&mut out, &file)?,
+        Ok(file) => accept(&mut out, stack_space, file)?,
         Err(fault) => writeln!(out, "{fault}")?,
     }
     out.flush()
+}
+
+fn accept<W: Write>(out: &mut W, space: StackSpace, file: RuleFile) -> io::Result<()> {
+    report::report(out, &file)?;
+    let options = file.options();
+    let asked = file.asked();
+    let start = file.start().with_no_from(options);
+    let mut rules = build(space, file);
+    let reply = ask(&mut rules, asked, start);
+    report::write_reply(out, reply, options)
 }

@@ -1,5 +1,5 @@
 // What an accepted rule file holds, in aligned text.
-use crate::words::{InWords, Options};
+use crate::words::{InWords, Known, Options};
 use assignment::Assignment;
 use entries::Entry;
 use rulefile::RuleFile;
@@ -83,4 +83,14 @@ fn write_entries<W: Write>(out: &mut W, entries: &[Entry]) -> io::Result<()> {
         writeln!(out, "{indent}rule {rule}: {entry}")?;
     }
     Ok(())
+}
+
+// One line with what a reply knows of each of the file's options.
+pub(crate) fn write_reply<W: Write>(
+    out: &mut W,
+    reply: Assignment,
+    options: u32,
+) -> io::Result<()> {
+    let known = Known { reply, options };
+    writeln!(out, "reply to the start:{known}")
 }

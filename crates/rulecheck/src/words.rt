@@ -1,5 +1,5 @@
-// What a rule file holds, in words.
-use assignment::has_bit;
+// What a rule file holds and what a rule replies, in words.
+use assignment::{Assignment, has_bit};
 use entries::Entry;
 use std::fmt;
 
@@ -52,5 +52,34 @@ impl fmt::Display for InWords {
             Entry::Complement { rule } => write!(f, "complement of rule {rule}"),
             Entry::None => write!(f, "none"),
         }
+    }
+}
+
+// Of the first so many options those that a reply has as yes, as no, as unknown and as inconsistent; each word only
+// where there is such an option.
+#[derive(Clone, Copy)]
+pub(crate) struct Known {
+    pub(crate) reply: Assignment,
+    pub(crate) options: u32,
+}
+
+impl fmt::Display for Known {
+    fn fmt<W: fmt::Write>(&self, f: &mut fmt::Formatter<W>) -> fmt::Result {
+        let yes = self.reply.yes_mask();
+        let no = self.reply.no_mask();
+        let used = !u64::MAX.checked_shl(self.options).unwrap_or(0);
+        let kinds = [
+            ("yes", yes & !no),
+            ("no", no & !yes),
+            ("unknown", !(yes | no)),
+            ("inconsistent", yes & no),
+        ];
+        for (word, mask) in kinds {
+            if mask & used != 0 {
+                let options = Options(mask & used);
+                write!(f, " {word}{options}")?;
+            }
+        }
+        Ok(())
     }
 }
