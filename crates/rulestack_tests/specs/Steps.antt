@@ -1,5 +1,5 @@
 -- Rules that add something known once an option is known yes, and add it to inconsistent questions too.
-use Rattle.std.specs.Prelude.{◌≡◌, ℕ, Bool, true, false, cond, List, [], ◌∷◌, refl}
+use Rattle.std.specs.Prelude.{◌≡◌, ℕ, Bool, true, false, cond, [], ◌∷◌, refl}
 use Rattle.std.proofs.lemmas.Bool.{both_ways}
 use Rattle.assignment.specs.Knows.{knows}
 use Rattle.assignment.specs.Lattice.{join, Refines}
