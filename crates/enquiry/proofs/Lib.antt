@@ -1,0 +1,14 @@
+pub mod BuildLists
+pub mod Counted
+pub mod Ending
+pub mod Enquiries
+pub mod Finishing
+pub mod HistoryLaws
+pub mod Once
+pub mod OpenChoices
+pub mod Opened
+pub mod RoomLaws
+pub mod Rounds
+pub mod RunLaws
+pub mod Sending
+pub mod SettledLaws

@@ -1,0 +1,11 @@
+pub mod FewerCounted
+pub mod Fitting
+pub mod Histories
+pub mod Listings
+pub mod Moving
+pub mod Openings
+pub mod Room
+pub mod RunLaw
+pub mod Settled
+pub mod States
+pub mod Views
