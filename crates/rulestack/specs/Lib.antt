@@ -1,4 +1,3 @@
 pub mod FileRules
 pub mod Laid
 pub mod Statements
-pub mod Worked

@@ -6,5 +6,5 @@ mod laws;
 mod space;
 
 pub use building::{RuleStack, ask, build};
-pub use laws::{file_laws, worked_examples};
+pub use laws::file_laws;
 pub use space::StackSpace;

@@ -1,4 +1,4 @@
-// The six worked examples of docs/PROOFS.md, run.
+// The worked examples of replies in docs/PROOFS.md, run.
 use crate::build::{CLAUSES, TABLE};
 use crate::expect::{Laid, expect_of_folder};
 use std::test::Fail;

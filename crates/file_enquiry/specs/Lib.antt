@@ -1,0 +1,3 @@
+pub mod FileListings
+pub mod FileOpenings
+pub mod Worked

@@ -1,0 +1,47 @@
+// Opening an enquiry on a rule file.
+ghost use Rattle.std.specs.Prelude.{◌≡◌, [], Ok, Err, MatchResult};
+ghost use Rattle.enquiry.specs.States.{begun_with};
+ghost use Rattle.enquiry.specs.Views.{opening_of, state_of};
+ghost use Rattle.file_enquiry.specs.FileListings.{Listings};
+ghost use Rattle.file_enquiry.specs.FileOpenings.{OpenedOn};
+ghost use Rattle.ruleformat.specs.Contents.{Contents};
+ghost use Rattle.ruleformat.specs.Reading.{reading};
+ghost use Rattle.ruleformat.specs.WellFormed.{WellFormed};
+ghost use Rattle.rulefile.specs.Held.{contents_of};
+
+use crate::space::FileSpace;
+use enquiry::Enquiry;
+use refusals::FileFault;
+use rulefile::{RuleFile, read};
+use ruleset::RuleSet;
+use rulestack::{RuleStack, StackSpace, build};
+
+/// An enquiry on the rules of a file.
+pub type FileEnquiry<'a> = Enquiry<RuleStack<'a>>;
+
+/// Opens an enquiry on the asked rule of a file, with its options and its start; or refuses the file as the reader does. A
+/// file that is read always opens, and a listing that is run to its end gives just the builds that the file allows.
+pub fn open_file<'a>(space: FileSpace<'a>, bytes: &'a [u8]) -> Result<FileEnquiry<'a>, FileFault>
+    ensures answer { MatchResult result (λ q. (c : Contents) × (reading bytes.now ≡ Ok c) × OpenedOn c (opening_of (⟦<RuleStack<'static> as RuleSet>⟧.meaning q.rules) q) × Listings c (opening_of (⟦<RuleStack<'static> as RuleSet>⟧.meaning q.rules) q)) (λ e. reading bytes.now ≡ Err e) }
+    ensures state { MatchResult result (λ q. state_of q ≡ begun_with []) (λ e. reading bytes.now ≡ Err e) }
+{
+    let file = read(space.file, bytes)?;
+    Ok(open(space.stack, file))
+}
+
+// Opens an enquiry on what was read.
+fn open<'a>(space: StackSpace, file: RuleFile<'a>) -> FileEnquiry<'a>
+    requires { WellFormed (contents_of file) }
+    ensures opening { OpenedOn (contents_of file.entry) (opening_of (⟦<RuleStack<'static> as RuleSet>⟧.meaning result.rules) result) }
+    ensures listings { Listings (contents_of file.entry) (opening_of (⟦<RuleStack<'static> as RuleSet>⟧.meaning result.rules) result) }
+    ensures state { state_of result ≡ begun_with [] }
+{
+    let options = file.options();
+    let start = file.start();
+    let asked = file.asked();
+    let rules = build(space, file);
+    match Enquiry::open(rules, options, start, asked) {
+        Ok(enquiry) => enquiry,
+        Err(_) => unreachable(),
+    }
+}
