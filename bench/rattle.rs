@@ -1,6 +1,6 @@
 // The functions of the proved crate `facade`, behind safe ones.
 
-/// What a call returns: all questions answered, the sheet or the mask refused, or no memory.
+/// What a call returns: all questions answered or all builds listed, what it was given refused, or no memory.
 pub const ANSWERED: u32 = 0;
 pub const REFUSED: u32 = 1;
 
@@ -11,6 +11,7 @@ unsafe extern "C" {
     fn answer_clauses(options: u32, body: *const u8, len: usize, masks: *mut u64, count: usize) -> u32;
     fn answer_table_hiding(options: u32, body: *const u8, len: usize, hidden: u64, masks: *mut u64, count: usize) -> u32;
     fn answer_clauses_hiding(options: u32, body: *const u8, len: usize, hidden: u64, masks: *mut u64, count: usize) -> u32;
+    fn list_builds(bytes: *const u8, len: usize, numbers: *mut u64, count: usize) -> u32;
 }
 
 pub fn table(options: u32, body: &[u8], masks: &mut [u64]) -> u32 {
@@ -27,4 +28,8 @@ pub fn table_hiding(options: u32, body: &[u8], hidden: u64, masks: &mut [u64]) -
 
 pub fn clauses_hiding(options: u32, body: &[u8], hidden: u64, masks: &mut [u64]) -> u32 {
     unsafe { answer_clauses_hiding(options, body.as_ptr(), body.len(), hidden, masks.as_mut_ptr(), masks.len()) }
+}
+
+pub fn list(bytes: &[u8], numbers: &mut [u64]) -> u32 {
+    unsafe { list_builds(bytes.as_ptr(), bytes.len(), numbers.as_mut_ptr(), numbers.len()) }
 }

@@ -7,19 +7,23 @@ pub struct Assignment {
     pub no: u64,
 }
 
-const CONTRADICTION: Assignment = Assignment { yes: u64::MAX, no: u64::MAX };
+pub const CONTRADICTION: Assignment = Assignment { yes: u64::MAX, no: u64::MAX };
 
 impl Assignment {
-    fn is_inconsistent(self) -> bool {
+    pub fn is_inconsistent(self) -> bool {
         self.yes & self.no != 0
     }
 
-    fn knows(self, option: u8, value: bool) -> bool {
+    pub fn is_total(self) -> bool {
+        self.yes ^ self.no == u64::MAX
+    }
+
+    pub fn knows(self, option: u8, value: bool) -> bool {
         let mask = if value { self.yes } else { self.no };
         mask >> option & 1 == 1
     }
 
-    fn with(self, option: u8, value: bool) -> Assignment {
+    pub fn with(self, option: u8, value: bool) -> Assignment {
         let bit = 1 << option;
         if value {
             Assignment { yes: self.yes | bit, ..self }
@@ -28,8 +32,28 @@ impl Assignment {
         }
     }
 
-    fn join(self, other: Assignment) -> Assignment {
+    pub fn join(self, other: Assignment) -> Assignment {
         Assignment { yes: self.yes | other.yes, no: self.no | other.no }
+    }
+
+    pub fn meet(self, other: Assignment) -> Assignment {
+        Assignment { yes: self.yes & other.yes, no: self.no & other.no }
+    }
+
+    /// Itself, or the contradiction where it is inconsistent.
+    pub fn whole(self) -> Assignment {
+        if self.is_inconsistent() { CONTRADICTION } else { self }
+    }
+
+    /// Both options get what is known of either.
+    pub fn equate(self, left: u8, right: u8) -> Assignment {
+        let mut equal = self;
+        for value in [true, false] {
+            if self.knows(left, value) || self.knows(right, value) {
+                equal = equal.with(left, value).with(right, value);
+            }
+        }
+        equal
     }
 
     fn only(self, mask: u64) -> Assignment {
@@ -37,17 +61,17 @@ impl Assignment {
     }
 }
 
-trait Rule {
+pub trait Rule {
     fn reply(&self, question: Assignment) -> Assignment;
 }
 
-struct Table<'a> {
+pub struct Table<'a> {
     columns: &'a [u8],
     rows: &'a [u8],
 }
 
 impl<'a> Table<'a> {
-    fn read(options: u32, body: &'a [u8]) -> Option<Table<'a>> {
+    pub fn read(options: u32, body: &'a [u8]) -> Option<Table<'a>> {
         let (&count, rest) = body.split_first()?;
         let count = count as usize;
         if count == 0 || count > 16 || rest.len() < count {
@@ -96,12 +120,12 @@ impl Rule for Table<'_> {
     }
 }
 
-struct Clauses<'a> {
+pub struct Clauses<'a> {
     body: &'a [u8],
 }
 
 impl<'a> Clauses<'a> {
-    fn read(options: u32, body: &'a [u8]) -> Option<Clauses<'a>> {
+    pub fn read(options: u32, body: &'a [u8]) -> Option<Clauses<'a>> {
         let (mut rest, mut clauses) = (body, 0);
         while let Some((&count, after)) = rest.split_first() {
             if count == 0 || count > 16 || after.len() < count as usize {
@@ -153,7 +177,7 @@ fn rising(values: impl Iterator<Item = u32>, bound: u32) -> bool {
     true
 }
 
-fn closure<R: Rule>(rule: &R, known: Assignment) -> Assignment {
+pub fn closure<R: Rule>(rule: &R, known: Assignment) -> Assignment {
     let mut current = known;
     loop {
         let reply = rule.reply(current);
@@ -182,9 +206,9 @@ fn finds_build<R: Rule>(rule: &R, options: &[u8], settled: Assignment) -> bool {
         || finds_build(rule, rest, closure(rule, settled.with(option, false)))
 }
 
-struct Hiding<R> {
-    rule: R,
-    hidden: u64,
+pub struct Hiding<R> {
+    pub rule: R,
+    pub hidden: u64,
 }
 
 impl<R> Hiding<R> {

@@ -10,4 +10,4 @@ rustc --edition 2024 -C opt-level=3 -C codegen-units=1 -C panic=abort \
     -L crates/facade/out -L "$kit/c" -l static=facade -l static=libc_c \
     -C link-arg=-Wl,--wrap=malloc,--wrap=calloc,--wrap=realloc \
     -o bench/target/compare bench/main.rs
-exec bench/target/compare
+exec bench/target/compare "$@"

@@ -3,7 +3,7 @@ ghost use Rattle.std.specs.Prelude.{◌≡◌};
 ghost use Rattle.facade.specs.Outcomes.{code_of};
 ghost use Rattle.facade.specs.declared.failure.Failure.TheVariants.{Refused, NoMemory};
 
-use refusals::{Refusal, SheetFault};
+use refusals::{FileFault, Refusal, SheetFault};
 use std::alloc::AllocError;
 
 const ANSWERED: u32 = 0;
@@ -31,6 +31,14 @@ impl From<Refusal> for Failure {
     ghost from_gives = { λ x r. r ≡ Refused };
 
     fn from(_refusal: Refusal) -> Failure {
+        Failure::Refused
+    }
+}
+
+impl From<FileFault> for Failure {
+    ghost from_gives = { λ x r. r ≡ Refused };
+
+    fn from(_fault: FileFault) -> Failure {
         Failure::Refused
     }
 }
