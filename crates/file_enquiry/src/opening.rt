@@ -10,6 +10,7 @@ ghost use Rattle.ruleformat.specs.WellFormed.{WellFormed};
 ghost use Rattle.rulefile.specs.Held.{contents_of};
 
 use crate::space::FileSpace;
+use assignment::Assignment;
 use enquiry::Enquiry;
 use refusals::FileFault;
 use rulefile::{RuleFile, read};
@@ -36,12 +37,34 @@ fn open<'a>(space: StackSpace, file: RuleFile<'a>) -> FileEnquiry<'a>
     ensures listings { Listings (contents_of file.entry) (opening_of (⟦<RuleStack<'static> as RuleSet>⟧.meaning result.rules) result) }
     ensures state { state_of result ≡ begun_with [] }
 {
-    let options = file.options();
-    let start = file.start();
-    let asked = file.asked();
+    let Start {
+        options,
+        known,
+        asked,
+    } = start_of(&file);
     let rules = build(space, file);
-    match Enquiry::open(rules, options, start, asked) {
+    match Enquiry::open(rules, options, known, asked) {
         Ok(enquiry) => enquiry,
         Err(_) => unreachable(),
+    }
+}
+
+// What an enquiry on a file is opened with, beside the rules.
+#[derive(Clone, Copy)]
+struct Start {
+    options: u32,
+    known: Assignment,
+    asked: u32,
+}
+
+fn start_of(file: &RuleFile) -> Start
+    ensures options { result.options ≡ file.now.parts.options }
+    ensures known { result.known ≡ file.now.parts.start }
+    ensures asked { result.asked ≡ file.now.parts.asked }
+{
+    Start {
+        options: file.options(),
+        known: file.start(),
+        asked: file.asked(),
     }
 }

@@ -74,10 +74,18 @@ impl<R: RuleSet> Enquiry<R> {
         ensures rules { result.rules ≡ self.rules }
         ensures law { (h : History) → Leaves (opening_of (R.RuleSet.meaning self.rules) self) h (state_of self) → result.last ≡ last_of (given h) }
     {
+        let last = self.last();
         Closed {
             rules: self.rules,
-            last: self.last,
+            last,
         }
+    }
+
+    // The last build that was given since the listing began.
+    fn last(&self) -> Option<Build>
+        ensures { result ≡ (state_of self.now).last }
+    {
+        self.last
     }
 }
 

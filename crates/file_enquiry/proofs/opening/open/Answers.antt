@@ -11,17 +11,17 @@ use Rattle.file_enquiry.proofs.opening.open.Goals as goal
 pub unreachable-requires : goal.unreachable-requires
 unreachable-requires c =
     ok_is_no_err
-    (sym (opens (contents_of c.args.file) c.start-start.result c.options-options.result c.asked-asked.result _ c.requires c.options-options.ensures (ap (λ a. a.yes) c.start-start.ensures) (ap (λ a. a.no) c.start-start.ensures) c.asked-asked.ensures (ap (λ m. m.count) c.build-rules.ensures))
+    (sym (opens (contents_of c.args.file) c.start_of-options.result.known c.start_of-options.result.options c.start_of-options.result.asked _ c.requires c.start_of-options.ensures.options (ap (λ a. a.yes) c.start_of-options.ensures.known) (ap (λ a. a.no) c.start_of-options.ensures.known) c.start_of-options.ensures.asked (ap (λ m. m.count) c.build-rules.ensures))
     ∙ c.in-Err.ensures.refusal)
 
 pub returns-clause-opening : goal.returns-clause-opening
 returns-clause-opening c =
     subst (OpenedOn (contents_of c.args.file)) (sym c.in-Ok.ensures.opening)
     (record {
-      options = c.options-options.ensures;
-      start_yes = ap (λ a. a.yes) c.start-start.ensures;
-      start_no = ap (λ a. a.no) c.start-start.ensures;
-      rule = c.asked-asked.ensures;
+      options = c.start_of-options.ensures.options;
+      start_yes = ap (λ a. a.yes) c.start_of-options.ensures.known;
+      start_no = ap (λ a. a.no) c.start_of-options.ensures.known;
+      rule = c.start_of-options.ensures.asked;
       rules = c.build-rules.ensures;
       order = refl;
     })
