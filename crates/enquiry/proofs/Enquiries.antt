@@ -1,12 +1,12 @@
 -- The run law for the enquiries of the code.
-use Rattle.std.proofs.Common.{◌≡◌, ℕ, ◌+◌, ◌≤◌, [], ◌∷◌, ◌++◌, map, sym, ap, ◌∙◌, subst}
+use Rattle.std.proofs.Common.{◌≡◌, ℕ, ◌+◌, ◌≤◌, ◌∷◌, ◌++◌, map, sym, ap, ◌∙◌, subst}
 use Rattle.std.proofs.lemmas.List.{map-append}
 use Rattle.calls.specs.declared.call.Call.{Call}
 use Rattle.calls.specs.declared.reply.Reply.{Reply}
 use Rattle.enquiry.specs.Fitting.{asked, known_with, Opening}
 use Rattle.enquiry.specs.Histories.{History}
 use Rattle.enquiry.specs.RunLaw.{Holds, Sound}
-use Rattle.enquiry.specs.States.{begun_with, left_of, PassedBy, State, step}
+use Rattle.enquiry.specs.States.{left_of, PassedBy, State, step}
 use Rattle.enquiry.specs.Views.{opening_of}
 use Rattle.enquiry.specs.declared.state.Enquiry.{Enquiry}
 use Rattle.enquiry.proofs.RunLaws.{passing_said, run_law}
@@ -29,9 +29,6 @@ law_kept o p s t call r sound reply state same h holds =
     (subst (λ x. Holds o (record { history = record { call = call; reply = r } ∷ h; state = x })) (sym state)
     (subst (λ x. Holds o (record { history = record { call = call; reply = x } ∷ h; state = (step o s call).state })) (sym reply)
     ((run_law o sound).one_more (record { history = h; state = s }) call holds)))
-
-pub law_begun : (o : Opening) (s : State) → Sound o → s ≡ begun_with [] → Holds o (record { history = []; state = s })
-law_begun o s sound state = subst (λ x. Holds o (record { history = []; state = x })) (sym state) (run_law o sound).opening
 
 -- running on passes what it answers
 pub passed_by : (o : Opening) (s : State) (budget : ℕ) → Sound o → PassedBy (run_on (asked o) o.order (known_with o s.settlements) budget s.place).answer (left_of o s) (rest (asked o) o.order (known_with o s.settlements) (run_on (asked o) o.order (known_with o s.settlements) budget s.place).place)
