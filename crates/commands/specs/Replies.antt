@@ -13,8 +13,6 @@ use Rattle.calls.specs.declared.reply.Reply.TheVariants.{Done, Refused, Known, D
 use Rattle.listing.specs.declared.build.Build.{Build}
 use Rattle.listing.specs.declared.progress.Progress.{Progress}
 use Rattle.listing.specs.declared.progress.Progress.TheVariants.{Built, Stopped, End}
-use Rattle.refusals.specs.declared.fault.FileFault.{FileFault}
-use Rattle.refusals.specs.Told.{line_of}
 
 -- a text, and the line's end
 abbrev pub ended : List ℕ → List ℕ
@@ -74,6 +72,3 @@ letters_line options build = ended (build_letters build options)
 
 abbrev pub refused_line : CallRefusal → List ℕ
 refused_line r = ended (refused_text r)
-
-abbrev pub fault_line : FileFault → List ℕ
-fault_line fault = ended (line_of fault)

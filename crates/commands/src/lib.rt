@@ -1,10 +1,9 @@
-// Command lines, cut out of bytes as they come and read, and the lines of the replies. Uses `assignment`, `refusals`,
-// `listing`, `calls` and the kit's `itoa`.
+// Command lines, cut out of bytes as they come and read, and the lines of the replies. Uses `assignment`, `listing`,
+// `calls` and the kit's `itoa`.
 #![tactic(auto)]
 
 mod buffer;
 mod command;
-mod fault;
 mod laws;
 mod letters;
 mod number;
@@ -13,7 +12,6 @@ mod splitter;
 
 pub use buffer::LINE;
 pub use command::parse_command;
-pub use fault::write_fault;
 pub use laws::{command_laws, splitting_laws};
 pub use reply::{write_letters, write_options, write_refused, write_reply};
 pub use splitter::Splitter;

@@ -7,6 +7,8 @@ mod cutting;
 #[cfg(test)]
 mod expect;
 #[cfg(test)]
+mod faults;
+#[cfg(test)]
 mod parsing;
 #[cfg(test)]
 mod replies;

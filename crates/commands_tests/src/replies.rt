@@ -2,9 +2,8 @@
 use crate::expect::expect_same;
 use assignment::Assignment;
 use calls::{CallRefusal, Reply};
-use commands::{LINE, write_fault, write_letters, write_options, write_refused, write_reply};
+use commands::{LINE, write_letters, write_options, write_refused, write_reply};
 use listing::{Build, Progress};
-use refusals::{FileFault, FolderFault, RecordFault, Refusal, SheetFault};
 use std::test::Fail;
 
 // What is in each byte of a buffer before a line is written.
@@ -47,12 +46,6 @@ fn expect_build(yes: u64, opened: u32, options: u32, words: &str) -> Result<(), 
 fn expect_letters(yes: u64, options: u32, words: &str) -> Result<(), Fail> {
     let mut buffer = [BEFORE; LINE];
     let count = write_letters(Build { yes }, options, &mut buffer);
-    expect_line(&buffer, count, words)
-}
-
-fn expect_fault(fault: FileFault, words: &str) -> Result<(), Fail> {
-    let mut buffer = [BEFORE; LINE];
-    let count = write_fault(fault, &mut buffer);
     expect_line(&buffer, count, words)
 }
 
@@ -161,61 +154,6 @@ fn letters() -> Result<(), Fail> {
         expect_letters(0xFFFF_FFFF_FFFF_FFFF, options, YES)?;
     }
     Ok(())
-}
-
-#[test]
-fn faults_of_records() -> Result<(), Fail> {
-    let unfinished = RecordFault {
-        refusal: Refusal::Unfinished,
-        place: 0,
-    };
-    let unfit = RecordFault {
-        refusal: Refusal::Unfit,
-        place: 21,
-    };
-    for (fault, words) in [
-        (FileFault::Record(unfinished), "refused 11 record 0 0"),
-        (
-            FileFault::Sheet(SheetFault::Record(unfit)),
-            "refused 6 record 21 0",
-        ),
-        (
-            FileFault::Folder(FolderFault::Record(unfit)),
-            "refused 6 record 21 0",
-        ),
-    ] {
-        expect_fault(fault, words)?;
-    }
-    Ok(())
-}
-
-#[test]
-fn faults_of_contents() -> Result<(), Fail> {
-    let start = FileFault::Start {
-        refusal: Refusal::OutOfRange,
-        place: 0,
-    };
-    let column = SheetFault::Item {
-        refusal: Refusal::BeyondOptions,
-        place: 21,
-        item: 1,
-    };
-    let farthest = FolderFault::Entry {
-        refusal: Refusal::TooManyHidden,
-        place: 18446744073709551615,
-        item: 18446744073709551615,
-    };
-    let question = FileFault::Question {
-        refusal: Refusal::NoSuchRule,
-        place: 60,
-    };
-    expect_fault(start, "refused 9 start 0 0")?;
-    expect_fault(FileFault::Sheet(column), "refused 7 sheet 21 1")?;
-    expect_fault(
-        FileFault::Folder(farthest),
-        "refused 12 folder 18446744073709551615 18446744073709551615",
-    )?;
-    expect_fault(question, "refused 10 question 60 0")
 }
 
 // A short line over a longer one leaves the rest of that as it was.

@@ -2,14 +2,13 @@
 // says where and why the file is bad.
 #![tactic(auto)]
 
-use commands::{LINE, write_fault, write_options};
+use commands::{LINE, write_options};
 use file_enquiry::{FileEnquiry, FileSpace, open_file};
-use refusals::FileFault;
+use loading::{LIMIT, load_rules};
 use std::io;
 use std::io::{BufWriter, Write};
 use std::process::ExitCode;
 
-mod load;
 mod talk;
 
 fn main(rt: HostRuntime) -> ExitCode {
@@ -24,14 +23,13 @@ fn main(rt: HostRuntime) -> ExitCode {
 
 fn run(rt: &HostRuntime) -> io::Result<()> {
     let heap = rt.alloc();
-    let mut buffer = vec![in heap; 0u8; load::LIMIT]?;
+    let mut buffer = vec![in heap; 0u8; LIMIT]?;
     let space = FileSpace::reserve(heap)?;
     let mut out = BufWriter::new(heap, rt.stdout())?;
-    // A file that cannot be read to its end or to the end of the buffer is like one without bytes.
-    let bytes = load::load(rt, "RULES", &mut buffer).unwrap_or(&[]);
+    let bytes = load_rules(rt, &mut buffer);
     match open_file(space, bytes) {
         Ok(enquiry) => serve(rt, &mut out, enquiry)?,
-        Err(fault) => refuse(&mut out, fault)?,
+        Err(fault) => writeln!(out, "{fault}")?,
     }
     out.flush()
 }
@@ -42,10 +40,4 @@ fn serve<W: Write>(rt: &HostRuntime, out: &mut W, mut enquiry: FileEnquiry) -> i
     let count = write_options(enquiry.options(), &mut line);
     out.write_all(&line[..count])?;
     talk::talk(&mut rt.stdin(), out, &mut enquiry)
-}
-
-fn refuse<W: Write>(out: &mut W, fault: FileFault) -> io::Result<()> {
-    let mut line = [0; LINE];
-    let count = write_fault(fault, &mut line);
-    out.write_all(&line[..count])
 }

@@ -2,13 +2,13 @@
 // bad.
 #![tactic(auto)]
 
+use loading::{LIMIT, load_rules};
 use rulefile::{RuleFile, Space, read};
 use rulestack::{StackSpace, ask, build};
 use std::io;
 use std::io::{BufWriter, Write};
 use std::process::ExitCode;
 
-mod load;
 mod report;
 mod words;
 
@@ -24,12 +24,11 @@ fn main(rt: HostRuntime) -> ExitCode {
 
 fn run(rt: &HostRuntime) -> io::Result<()> {
     let heap = rt.alloc();
-    let mut buffer = vec![in heap; 0u8; load::LIMIT]?;
+    let mut buffer = vec![in heap; 0u8; LIMIT]?;
     let space = Space::reserve(heap)?;
     let stack_space = StackSpace::reserve(heap)?;
     let mut out = BufWriter::new(heap, rt.stdout())?;
-    // A file that cannot be read to its end or to the end of the buffer is like one without bytes.
-    let bytes = load::load(rt, "RULES", &mut buffer).unwrap_or(&[]);
+    let bytes = load_rules(rt, &mut buffer);
     match read(space, bytes) {
         Ok(file) => accept(&mut out, stack_space, file)?,
         Err(fault) => writeln!(out, "{fault}")?,

@@ -1,6 +1,5 @@
 // The search for a build that a rule allows.
 ghost use Rattle.std.specs.Prelude.{◌≡◌, position, Decides};
-ghost use Rattle.assignment.specs.Knows.{known as anything_known};
 ghost use Rattle.ruleset.specs.Closure.{closure as closed};
 ghost use Rattle.ruleset.specs.Fillings.{fills as fillings, FillsBuilds, SearchFills};
 ghost use Rattle.ruleset.specs.Tree.{Below, Covers, finds, Fits, tree, TreeLaw, TreeLists, unknown};
@@ -46,14 +45,7 @@ fn first_unknown(options: &[u8], settled: Assignment) -> Option<usize>
 {
     options
         .iter()
-        .position(|&option| !is_known(settled, u32::from(option)))
-}
-
-// Whether anything is known of an option.
-fn is_known(settled: Assignment, option: u32) -> bool
-    ensures { result ≡ anything_known settled option }
-{
-    settled.knows(option, true) || settled.knows(option, false)
+        .position(|&option| !settled.is_known(u32::from(option)))
 }
 
 /// The laws of the search tree: how it branches, that it lists just the builds that the rule allows, in order, and that

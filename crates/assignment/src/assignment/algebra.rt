@@ -3,7 +3,7 @@
 
 ghost use Rattle.std.specs.Prelude.{◌≡◌, ℕ, ◌<◌, Bool, true, not, ◌&&◌, ◌||◌, Decides, ◌==◌, nat_le};
 ghost use Rattle.std.specs.Bool.{beq};
-ghost use Rattle.assignment.specs.Knows.{has, knows, Build, KnownOutside};
+ghost use Rattle.assignment.specs.Knows.{has, known, knows, Build, KnownOutside};
 ghost use Rattle.assignment.specs.Lattice.{contradiction, copied, equate, join, known_outside, meet, no_from, outside, put, same, total, whole, within};
 
 use super::Assignment;
@@ -53,6 +53,13 @@ impl Assignment {
         } else {
             has_bit(self.no, option)
         }
+    }
+
+    /// Whether anything is known of an option; nothing is of an option from 64 on.
+    pub fn is_known(self, option: u32) -> bool
+        ensures { result ≡ known self option }
+    {
+        has_bit(self.yes | self.no, option)
     }
 
     /// The same with an option known to have a value; an option from 64 on changes nothing.

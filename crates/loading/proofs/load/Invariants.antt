@@ -1,6 +1,6 @@
 -- Never past the end of the buffer.
 use Rattle.std.proofs.Common.{◌-◌, ◌≤◌, length}
-use Rattle.rulecheck.proofs.load.load.Given as goal
+use Rattle.loading.proofs.load.Given as goal
 
 abbrev pub invariant-loop-filled : goal.invariant-loop-filled
 invariant-loop-filled l = l.filled ≤ length l.buffer
