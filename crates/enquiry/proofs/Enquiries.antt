@@ -15,13 +15,13 @@ use Rattle.listing.specs.Moves.{build_of, run_on}
 use Rattle.listing.specs.Walk.{rest}
 use Rattle.listing.specs.declared.progress.Progress.{Progress}
 use Rattle.listing.proofs.EventLaws.{builds_append, choices_append, passes}
-use Rattle.listing.proofs.OrderLaws.{once_covers, selling_order_once}
+use Rattle.listing.proofs.OrderLaws.{once_listed, selling_order_once}
 use Rattle.listing.proofs.Running.{walk_runs}
 use Rattle.ruleset.specs.Meaning.{Lawful, lawful_rule, Meaning}
 
 pub sound_opening : {R : Type 0} (rules : Meaning) (q : Enquiry R) → Lawful rules → q.options ≤ 64 → Sound (opening_of rules q)
 sound_opening rules q lawful few =
-    record { lawful = lawful; few = few; below = selling_order_once.below; covers = λ a. once_covers selling_order_once a }
+    record { lawful = lawful; few = few; below = selling_order_once.below; covers = once_listed selling_order_once }
 
 pub law_kept : (o p : Opening) (s t : State) (call : Call) (r : Reply) → Sound o → r ≡ (step o s call).reply → t ≡ (step o s call).state → p ≡ o → (h : History) → Holds o (record { history = h; state = s }) → Holds p (record { history = record { call = call; reply = r } ∷ h; state = t })
 law_kept o p s t call r sound reply state same h holds =

@@ -12,3 +12,4 @@ pub mod Rounds
 pub mod RunLaws
 pub mod Sending
 pub mod SettledLaws
+pub mod WantLaws

@@ -80,7 +80,7 @@ module _ (o : Opening) (sound : Sound o) where
   lists : (ss : List Settlement) (xs ys : List Event) → events (tree_with o ss) ≡ xs ++ ys → Lists o.order (FitsWith ss) (builds_in xs ++ builds_in ys)
   lists ss xs ys e =
       subst (Lists o.order (FitsWith ss)) (sym (builds_are_leaves (tree_with o ss)) ∙ ap builds_in e ∙ builds_append xs ys)
-      (tree_lists (asked o) rule_lawful o.order sound.below (known_with o ss) (sound.covers (closure (asked o) (known_with o ss))))
+      (tree_lists (asked o) rule_lawful o.order sound.below (known_with o ss) (λ p below unknown. sound.covers p below))
 
   first_given : (h : History) (p : Place) → Passed o (standing h) (given h) (counted h) p → FirstGiven o h
   first_given h p passed =

@@ -9,3 +9,4 @@ pub mod RunLaw
 pub mod Settled
 pub mod States
 pub mod Views
+pub mod Wants

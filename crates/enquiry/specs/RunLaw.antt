@@ -1,20 +1,20 @@
 -- The run law: whatever is called, in whatever order, it is answered as the history says.
-use Rattle.std.specs.Prelude.{◌≡◌, ◌≤◌, List, [], ◌∷◌, ◌++◌, map, length, drop}
-use Rattle.assignment.specs.declared.assignment.Assignment.{Assignment}
+use Rattle.std.specs.Prelude.{◌≡◌, ℕ, ◌<◌, ◌≤◌, List, [], ◌∷◌, ◌++◌, map, length, drop}
+use mathlib.Core.List.{Memᴰ}
 use Rattle.calls.specs.declared.call.Call.{Call}
 use Rattle.calls.specs.declared.reply.Reply.{Reply}
 use Rattle.enquiry.specs.Fitting.{Kept, Opening}
 use Rattle.enquiry.specs.Histories.{History}
 use Rattle.enquiry.specs.States.{begun_with, Leaves, State, step}
 use Rattle.ruleset.specs.Meaning.{Lawful}
-use Rattle.ruleset.specs.Tree.{Below, Covers}
+use Rattle.ruleset.specs.Tree.{Below}
 
 -- rules that keep their promises, and an order that has every option
 pub record Sound (o : Opening) : Type 0 where
   pub lawful : Lawful o.rules
   pub few : o.options ≤ 64
   pub below : Below o.order
-  pub covers : (a : Assignment) → Covers o.order a
+  pub covers : (p : ℕ) → p < 64 → Memᴰ p o.order
 
 -- what was said, and the state then
 pub record Sent : Type 0 where

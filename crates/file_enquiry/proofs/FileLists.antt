@@ -1,18 +1,19 @@
 -- A listing of a file's rules that was run to its end gives all builds that the file allows.
 use Rattle.std.proofs.Common.{◌≡◌, ◌≤◌, sym, ap, ◌∙◌, subst}
+use mathlib.Core.List.{Memᴰ}
 use Rattle.enquiry.specs.Fitting.{asked, Fitting, InOrder, known_with, Opening}
 use Rattle.enquiry.specs.Histories.{given, History, standing}
 use Rattle.enquiry.specs.RunLaw.{Sound}
 use Rattle.enquiry.proofs.Counted.{all_given, first_of_kept}
 use Rattle.file_enquiry.specs.FileListings.{FileBuild, FileListed, Listings}
 use Rattle.file_enquiry.specs.FileOpenings.{OpenedOn}
-use Rattle.listing.proofs.OrderLaws.{once_covers, selling_order_once}
+use Rattle.listing.proofs.OrderLaws.{once_listed, selling_order_once}
 use Rattle.listing.specs.declared.build.Build.{Build}
 use Rattle.ruleformat.specs.Contents.{Contents}
 use Rattle.ruleformat.specs.WellFormed.{WellFormed}
 use Rattle.ruleformat.proofs.Accepted.{accepted_is_encoded}
 use Rattle.ruleset.specs.Meaning.{Lawful}
-use Rattle.ruleset.specs.Tree.{Below, Covers}
+use Rattle.ruleset.specs.Tree.{Below}
 use Rattle.rulestack.specs.FileRules.{file_rules}
 use Rattle.rulestack.proofs.SheetsAllow.{file_allows_builds, file_lawful}
 
@@ -22,7 +23,7 @@ sound_file c fine o on =
       lawful = subst Lawful (sym on.rules) (file_lawful c);
       few = subst (λ n. n ≤ 64) (sym on.options) fine.few_options;
       below = subst Below (sym on.order) selling_order_once.below;
-      covers = λ a. subst (λ os. Covers os a) (sym on.order) (once_covers selling_order_once a);
+      covers = λ p h. subst (Memᴰ p) (sym on.order) (once_listed selling_order_once p h);
     }
 
 -- what fits is what the file allows
