@@ -1,6 +1,9 @@
 -- What one call more makes of what is read off a history.
 use Rattle.std.proofs.Common.{◌≡◌, List, [], ◌∷◌, ◌++◌, Option, Some, refl, sym, ap, ◌∙◌, subst, arith}
 use Rattle.std.proofs.lemmas.List.{append-nil}
+use Rattle.std.proofs.lemmas.Option.{none-some, same_Some}
+use mathlib.Core.List.Memᴰ
+use mathlib.Core.List.{Memᴰ}
 use Rattle.enquiry.specs.Fitting.{Opening}
 use Rattle.enquiry.specs.Histories.{build_given, counted, given, History, settled_by, since_begun, standing}
 use Rattle.enquiry.specs.States.{begun_with, last_after, last_of, Leaves, Passed, StandsBy, State}
@@ -59,6 +62,11 @@ last_is : (bs : List Build) (b : Build) → last_of (bs ++ (b ∷ [])) ≡ Some 
 last_is [] b = refl
 last_is (c ∷ []) b = refl
 last_is (c ∷ d ∷ bs) b = last_is (d ∷ bs) b
+
+pub last_given : (bs : List Build) (b : Build) → last_of bs ≡ Some b → Memᴰ b bs
+last_given [] b e = absurd (none-some b e)
+last_given (c ∷ []) b e = Memᴰ.head (sym (same_Some c b e))
+last_given (c ∷ d ∷ bs) b e = Memᴰ.tail (last_given (d ∷ bs) b e)
 
 pub last_listed : (bs : List Build) (before : Option Build) (answer : Progress) → before ≡ last_of bs → last_after before answer ≡ last_of (bs ++ build_given answer)
 last_listed bs before (Built b n) e = sym (last_is bs b)

@@ -87,8 +87,3 @@ pub record Leaves (o : Opening) (h : History) (s : State) : Type 0 where
 -- what is left of the tree where the listing stands
 abbrev pub left_of : Opening → State → List Event
 left_of o s = rest (asked o) o.order (known_with o s.settlements) s.place
-
--- Between two states the listing has passed the choices that an answer counts, and the build that it gives.
-pub record PassedBy (progress : Progress) (before after : List Event) : Type 0 where
-  pub choices : choices_in before ≡ choices_counted progress + choices_in after
-  pub builds : map build_of (builds_in before) ≡ build_given progress ++ map build_of (builds_in after)

@@ -1,12 +1,13 @@
 // Opening an enquiry, what it has been opened with, and closing it.
-ghost use Rattle.std.specs.Prelude.{◌≡◌, [], Ok, Err, IfOk, MatchResult, List};
-ghost use Rattle.enquiry.specs.Fitting.{Kept, Opening};
+ghost use Rattle.std.specs.Prelude.{◌≡◌, [], Ok, Err, IfOk, MatchResult, Some};
+ghost use Rattle.enquiry.specs.Fitting.{Fitting};
 ghost use Rattle.enquiry.specs.Histories.{given, History};
-ghost use Rattle.enquiry.specs.Openings.{opening_verdict};
-ghost use Rattle.enquiry.specs.RunLaw.{at_opening, Holds};
-ghost use Rattle.enquiry.specs.States.{begun_with, last_of, Leaves};
+ghost use Rattle.enquiry.specs.Openings.{opening_verdict, Opens};
+ghost use Rattle.enquiry.specs.RunLaw.{Holds, Sound};
+ghost use Rattle.enquiry.specs.States.{begun_with, last_of};
 ghost use Rattle.enquiry.specs.Views.{opening_of, state_of};
 ghost use Rattle.listing.specs.SellingOrder.{selling_order};
+ghost use Rattle.listing.specs.declared.build.Build.{Build as BuildValue};
 
 use super::Enquiry;
 use crate::walk::Listing;
@@ -42,9 +43,11 @@ impl<R: RuleSet> Enquiry<R> {
         rule: u32,
     ) -> Result<Enquiry<R>, NotOpened<R>>
         ensures refusal { MatchResult result (λ q. opening_verdict options start rule (R.RuleSet.meaning rules).count ≡ Ok tt) (λ e. opening_verdict options start rule (R.RuleSet.meaning rules).count ≡ Err e.refusal) }
+        ensures opens { MatchResult result (λ q. Opens options start rule (R.RuleSet.meaning rules).count) (λ e. Opens options start rule (R.RuleSet.meaning rules).count → ⊥) }
         ensures rules { MatchResult result (λ q. q.rules ≡ rules) (λ e. e.rules ≡ rules) }
         ensures opening { IfOk result (λ q. opening_of (R.RuleSet.meaning q.rules) q ≡ record { options = options; start = start; rule = rule; rules = R.RuleSet.meaning rules; order = selling_order }) }
         ensures state { IfOk result (λ q. state_of q ≡ begun_with []) }
+        ensures sound { IfOk result (λ q. Sound (opening_of (R.RuleSet.meaning q.rules) q)) }
         ensures law { IfOk result (λ q. Holds (opening_of (R.RuleSet.meaning q.rules) q) (record { history = []; state = state_of q })) }
     {
         match check(options, start, rule, rules.count()) {
@@ -72,7 +75,8 @@ impl<R: RuleSet> Enquiry<R> {
     pub fn close(self) -> Closed<R>
         ensures last { result.last ≡ (state_of self).last }
         ensures rules { result.rules ≡ self.rules }
-        ensures law { (h : History) → Leaves (opening_of (R.RuleSet.meaning self.rules) self) h (state_of self) → result.last ≡ last_of (given h) }
+        ensures given { (h : History) → Holds (opening_of (R.RuleSet.meaning self.rules) self) (record { history = h; state = state_of self }) → result.last ≡ last_of (given h) }
+        ensures fits { (h : History) (b : BuildValue) → Holds (opening_of (R.RuleSet.meaning self.rules) self) (record { history = h; state = state_of self }) → result.last ≡ Some b → Fitting (opening_of (R.RuleSet.meaning self.rules) self) h b }
     {
         let last = self.last();
         Closed {

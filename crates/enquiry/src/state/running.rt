@@ -1,7 +1,7 @@
 // The calls of a list, one after the other.
 ghost use Rattle.std.specs.Prelude.{◌≡◌, [], Ok, Err, IfOk, MatchResult, length, min, take};
 ghost use Rattle.enquiry.specs.Openings.{opening_verdict};
-ghost use Rattle.enquiry.specs.RunLaw.{Holds, replied_over, sent_on, sent_to};
+ghost use Rattle.enquiry.specs.RunLaw.{Holds, replied_over, sent_on, sent_to, Sound};
 ghost use Rattle.enquiry.specs.Views.{opening_of, state_of};
 ghost use Rattle.listing.specs.SellingOrder.{selling_order};
 
@@ -26,6 +26,7 @@ impl<R: RuleSet> Enquiry<R> {
         ensures opening { MatchResult result (λ q. opening_of (R.RuleSet.meaning q.rules) q ≡ record { options = options; start = start; rule = rule; rules = R.RuleSet.meaning rules; order = selling_order }) (λ e. e.rules ≡ rules) }
         ensures replies { MatchResult result (λ q. replies.new ≡ replied_over (sent_to (opening_of (R.RuleSet.meaning q.rules) q) (take (min (length calls.now) (length replies.old)) calls.now)).history replies.old) (λ e. replies.new ≡ replies.old) }
         ensures state { IfOk result (λ q. state_of q ≡ (sent_to (opening_of (R.RuleSet.meaning q.rules) q) (take (min (length calls.now) (length replies.old)) calls.now)).state) }
+        ensures sound { IfOk result (λ q. Sound (opening_of (R.RuleSet.meaning q.rules) q)) }
         ensures law { IfOk result (λ q. Holds (opening_of (R.RuleSet.meaning q.rules) q) (sent_to (opening_of (R.RuleSet.meaning q.rules) q) (take (min (length calls.now) (length replies.old)) calls.now))) }
     {
         let mut enquiry = match Enquiry::open(rules, options, start, rule) {
