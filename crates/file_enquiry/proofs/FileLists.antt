@@ -1,30 +1,23 @@
 -- A listing of a file's rules that was run to its end gives all builds that the file allows.
 use Rattle.std.proofs.Common.{◌≡◌, ◌≤◌, sym, ap, ◌∙◌, subst}
-use mathlib.Core.List.{Memᴰ}
 use Rattle.enquiry.specs.Fitting.{asked, Fitting, InOrder, known_with, Opening}
 use Rattle.enquiry.specs.Histories.{given, History, standing}
 use Rattle.enquiry.specs.RunLaw.{Sound}
 use Rattle.enquiry.proofs.Counted.{all_given, first_of_kept}
+use Rattle.enquiry.proofs.Enquiries.{sound_at}
 use Rattle.file_enquiry.specs.FileListings.{FileBuild, FileListed, Listings}
 use Rattle.file_enquiry.specs.FileOpenings.{OpenedOn}
-use Rattle.listing.proofs.OrderLaws.{once_listed, selling_order_once}
 use Rattle.listing.specs.declared.build.Build.{Build}
 use Rattle.ruleformat.specs.Contents.{Contents}
 use Rattle.ruleformat.specs.WellFormed.{WellFormed}
 use Rattle.ruleformat.proofs.Accepted.{accepted_is_encoded}
 use Rattle.ruleset.specs.Meaning.{Lawful}
-use Rattle.ruleset.specs.Tree.{Below}
 use Rattle.rulestack.specs.FileRules.{file_rules}
 use Rattle.rulestack.proofs.SheetsAllow.{file_allows_builds, file_lawful}
 
 sound_file : (c : Contents) → WellFormed c → (o : Opening) → OpenedOn c o → Sound o
 sound_file c fine o on =
-    record {
-      lawful = subst Lawful (sym on.rules) (file_lawful c);
-      few = subst (λ n. n ≤ 64) (sym on.options) fine.few_options;
-      below = subst Below (sym on.order) selling_order_once.below;
-      covers = λ p h. subst (Memᴰ p) (sym on.order) (once_listed selling_order_once p h);
-    }
+    sound_at o (subst Lawful (sym on.rules) (file_lawful c)) (subst (λ n. n ≤ 64) (sym on.options) fine.few_options) on.order
 
 -- what fits is what the file allows
 module _ (c : Contents) (fine : WellFormed c) (o : Opening) (on : OpenedOn c o) (h : History) where

@@ -1,5 +1,6 @@
 // Opening an enquiry on a rule file.
-ghost use Rattle.std.specs.Prelude.{◌≡◌, [], Ok, Err, MatchResult};
+ghost use Rattle.std.specs.Prelude.{◌≡◌, [], Ok, Err, IfOk, MatchResult};
+ghost use Rattle.enquiry.specs.RunLaw.{Holds, Sound};
 ghost use Rattle.enquiry.specs.States.{begun_with};
 ghost use Rattle.enquiry.specs.Views.{opening_of, state_of};
 ghost use Rattle.file_enquiry.specs.FileListings.{Listings};
@@ -24,7 +25,9 @@ pub type FileEnquiry<'a> = Enquiry<RuleStack<'a>>;
 /// file that is read always opens, and a listing that is run to its end gives just the builds that the file allows.
 pub fn open_file<'a>(space: FileSpace<'a>, bytes: &'a [u8]) -> Result<FileEnquiry<'a>, FileFault>
     ensures answer { MatchResult result (λ q. (c : Contents) × (reading bytes.now ≡ Ok c) × OpenedOn c (opening_of (⟦<RuleStack<'static> as RuleSet>⟧.meaning q.rules) q) × Listings c (opening_of (⟦<RuleStack<'static> as RuleSet>⟧.meaning q.rules) q)) (λ e. reading bytes.now ≡ Err e) }
-    ensures state { MatchResult result (λ q. state_of q ≡ begun_with []) (λ e. reading bytes.now ≡ Err e) }
+    ensures state { IfOk result (λ q. state_of q ≡ begun_with []) }
+    ensures sound { IfOk result (λ q. Sound (opening_of (⟦<RuleStack<'static> as RuleSet>⟧.meaning q.rules) q)) }
+    ensures law { IfOk result (λ q. Holds (opening_of (⟦<RuleStack<'static> as RuleSet>⟧.meaning q.rules) q) (record { history = []; state = state_of q })) }
 {
     let file = read(space.file, bytes)?;
     Ok(open(space.stack, file))
@@ -36,6 +39,8 @@ fn open<'a>(space: StackSpace, file: RuleFile<'a>) -> FileEnquiry<'a>
     ensures opening { OpenedOn (contents_of file.entry) (opening_of (⟦<RuleStack<'static> as RuleSet>⟧.meaning result.rules) result) }
     ensures listings { Listings (contents_of file.entry) (opening_of (⟦<RuleStack<'static> as RuleSet>⟧.meaning result.rules) result) }
     ensures state { state_of result ≡ begun_with [] }
+    ensures sound { Sound (opening_of (⟦<RuleStack<'static> as RuleSet>⟧.meaning result.rules) result) }
+    ensures law { Holds (opening_of (⟦<RuleStack<'static> as RuleSet>⟧.meaning result.rules) result) (record { history = []; state = state_of result }) }
 {
     let Start {
         options,
