@@ -1,4 +1,4 @@
-// What may be called at an enquiry, and what is answered. Uses `assignment`, `ruleset` and `listing`.
+// What may be called at an enquiry, and what is answered. Uses `assignment` and `listing`.
 #![tactic(auto)]
 
 mod call;

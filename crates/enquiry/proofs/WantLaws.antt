@@ -1,20 +1,18 @@
 -- Settling, taking back and looking, by the builds that fit.
-use Rattle.std.proofs.Common.{◌≡◌, ◌≢◌, ℕ, ◌+◌, ◌-◌, ◌<◌, Bool, true, false, not, cond, List, [], ◌∷◌, ◌++◌, length, take, ◌↔◌, refl, sym, ap, ◌∙◌, subst, arith}
+use Rattle.std.proofs.Common.{◌≡◌, ◌≢◌, ℕ, ◌-◌, ◌<◌, Bool, true, false, cond, List, [], ◌∷◌, ◌++◌, length, take, ◌↔◌, refl, sym, ap, ◌∙◌, subst, arith}
 use Rattle.std.proofs.lemmas.Bool.{both_ways}
 use Rattle.std.proofs.lemmas.List.{length-append}
 use Rattle.std.proofs.Math.Seq.{take-append_seam}
 use Rattle.assignment.specs.Knows.{has, knows}
-use Rattle.assignment.specs.Lattice.{contradiction, inconsistent, put, Refines, Total}
+use Rattle.assignment.specs.Lattice.{inconsistent, put, Refines, Total}
 use Rattle.assignment.specs.Laws.{consistent_at, inconsistent_up, knows_up, put_above, put_has, put_least, refines_trans, total_consistent, total_other}
 use Rattle.assignment.specs.declared.assignment.Assignment.{Assignment}
-use Rattle.calls.specs.declared.call.Call.{Call}
-use Rattle.calls.specs.declared.call.Call.TheVariants.{Settle, Back, Again, Look}
 use Rattle.calls.specs.declared.reply.Reply.{Reply}
 use Rattle.calls.specs.declared.reply.Reply.TheVariants.{Done, Refused, Known, Dead, Listed}
-use Rattle.enquiry.specs.Fitting.{Answer, asked, Fitting, known_with, Opening, settled}
+use Rattle.enquiry.specs.Fitting.{asked, Fitting, known_with, Opening, settled}
 use Rattle.enquiry.specs.Histories.{all_but_last, History, is_done, Said, settled_by, standing}
 use Rattle.enquiry.specs.RunLaw.{Sound}
-use Rattle.enquiry.specs.Wants.{done, Looks, Settles, WantLaw}
+use Rattle.enquiry.specs.Wants.{Looks, Settles, WantLaw}
 use Rattle.enquiry.specs.declared.settlement.Settlement.{Settlement}
 use Rattle.listing.specs.Moves.{build_of}
 use Rattle.listing.specs.declared.build.Build.{Build}
@@ -46,10 +44,11 @@ module _ (o : Opening) where
   settle_leaves k option value h b = (there, back)
     where
       there : FitsAt (put option value k) b → FitsAt k b × (has b.yes option ≡ value)
-      there (a, same, (total, above, allowed)) =
-          ((a, same, (total, refines_trans above (put_above option value k), allowed)),
-          subst (λ d. has d.yes option ≡ value) same
-          (has_known a total option value h (knows_up above option value (put_has option value k h))))
+      there (a, same, (total, above, allowed)) = (
+        (a, same, (total, refines_trans above (put_above option value k), allowed)),
+        subst (λ d. has d.yes option ≡ value) same
+            (has_known a total option value h (knows_up above option value (put_has option value k h))),
+      )
 
       back : FitsAt k b × (has b.yes option ≡ value) → FitsAt (put option value k) b
       back ((a, same, (total, above, allowed)), e) =

@@ -1,7 +1,7 @@
 -- What an enquiry keeps, what each call makes of it, and which histories leave it so.
-use Rattle.std.specs.Prelude.{◌≡◌, ℕ, ◌+◌, cond, List, [], ◌∷◌, ◌++◌, map, Option, None, Some}
+use Rattle.std.specs.Prelude.{◌≡◌, ℕ, cond, List, [], ◌∷◌, ◌++◌, map, Option, None, Some}
 use Rattle.enquiry.specs.Fitting.{asked, back_answer, known_with, look_answer, Opening, settle_answer, tree_with}
-use Rattle.enquiry.specs.Histories.{all_but_last, build_given, choices_counted, counted, given, History, is_done, settled_by, since_begun, standing}
+use Rattle.enquiry.specs.Histories.{all_but_last, counted, given, History, is_done, settled_by, since_begun, standing}
 use Rattle.calls.specs.declared.call.Call.{Call}
 use Rattle.calls.specs.declared.call.Call.TheVariants.{Settle, Back, Again, Look, Next}
 use Rattle.calls.specs.declared.reply.Reply.{Reply}

@@ -7,8 +7,9 @@ ghost use Rattle.folders.specs.Statements.{FolderReplies, StackAllows, StackLawf
 
 /// Folders over any rules, to any height, keep the promises, reply by the table of entries and allow the builds that it
 /// says. Whatever is called at an enquiry over any rules that keep them, it is answered as the history of calls says, and
-/// the builds given are the first of all that fit, each once, in selling order. With a settlement more, or a more precise
-/// rule, a listing counts no more choices. And a listing of a file's rules gives what the file's sheets and entries allow.
+/// the builds given are the first of all that fit, each once, in the order of its opening. With settlements more, or a
+/// more precise rule, a listing that is run to its end counts no more choices. And a listing of a file's rules that is run
+/// to its end gives what the file's sheets and entries allow, in selling order.
 pub fn enquiry_laws()
     ensures lawful { StackLawful }
     ensures replies { FolderReplies }
