@@ -1,41 +1,15 @@
 -- The rules of well-formed contents have the asked rule, so an enquiry on them opens.
-use Rattle.std.proofs.Common.{◌≡◌, ℕ, ◌+◌, ◌<◌, ◌≤◌, ◌^◌, Bool, true, false, cond, not, ◌==◌, nat_le, nat_lt, List, [], ◌∷◌, length, Result, Ok, Err, bit_and, ◌≢◌, refl, sym, ap, ap₂, ◌∙◌, subst, arith}
+use Rattle.std.proofs.Common.{◌≡◌, ℕ, ◌<◌, ◌≤◌, ◌^◌, Bool, true, false, cond, not, ◌==◌, nat_le, nat_lt, Result, Ok, Err, bit_and, ◌≢◌, refl, sym, ap, ap₂, ◌∙◌, subst, arith}
 use Rattle.std.proofs.lemmas.Bool.{both_ways, eq-eqb, le-ltb, lt-leb, ne_eqb}
-use Rattle.std.proofs.lemmas.List.{length-map}
 use Rattle.assignment.specs.Lattice.{inconsistent}
 use Rattle.assignment.specs.declared.assignment.Assignment.{Assignment}
 use Rattle.enquiry.specs.Openings.{opening_verdict}
-use Rattle.entries.specs.declared.entry.Entry.{Entry}
-use Rattle.folders.specs.Entries.{entry_reply}
-use Rattle.folders.specs.Folders.{folder, stack}
 use Rattle.refusals.specs.declared.refusal.Refusal.{Refusal}
 use Rattle.refusals.specs.declared.refusal.Refusal.TheVariants.{BeyondOptions, Conflict, NoSuchRule, OutOfRange}
 use Rattle.ruleformat.specs.Contents.{Contents}
-use Rattle.ruleformat.specs.WellFormed.{FoldersFit, top, WellFormed}
-use Rattle.ruleset.specs.Meaning.{Meaning}
-use Rattle.rulestack.specs.FileRules.{file_rules, sheet_rules}
-use Rattle.sheet_rules.specs.ClauseReply.{clauses_reply}
-use Rattle.sheet_rules.specs.TableReply.{table_reply}
-
-folder_count : (es : List Entry) (m : Meaning) → length es ≤ 32 → (folder es m).count ≡ length es
-folder_count es m h =
-    let entries = length-map es (λ e. entry_reply e m.reply) in
-    omega (arith, h, entries)
-
-stack_count : (options below : ℕ) (fs : List (List Entry)) (m : Meaning) → m.count ≡ below → FoldersFit options below fs → (stack fs m).count ≡ top below fs
-unfolding stack
-stack_count options below [] m e fit = e
-stack_count options below (es ∷ fs) m e fit = stack_count options (length es) fs (folder es m) (folder_count es m fit.0.few_entries) fit.1
-
-sheets_count : (c : Contents) → WellFormed c → (sheet_rules c).count ≡ length c.tables + length c.clauses
-sheets_count c fine =
-    let tables = length-map c.tables table_reply in
-    let clauses = length-map c.clauses clauses_reply in
-    omega (arith, tables, clauses, fine.few_sheets)
-
-pub rules_count : (c : Contents) → WellFormed c → (file_rules c).count ≡ top (length c.tables + length c.clauses) c.folders
-rules_count c fine =
-    stack_count c.options (length c.tables + length c.clauses) c.folders (sheet_rules c) (sheets_count c fine) fine.folders_fit
+use Rattle.ruleformat.specs.WellFormed.{WellFormed}
+use Rattle.rulestack.specs.FileRules.{file_rules}
+use Rattle.rulestack.proofs.Counts.{rules_count}
 
 -- a check that does not hold
 passed_by : (b : Bool) (x : Refusal) (rest : Result (Unit {0}) Refusal) → b ≡ false → rest ≡ Ok tt → cond b (Err x) rest ≡ Ok tt
