@@ -1,5 +1,6 @@
 pub mod ClausesAdd
 pub mod Gathering
 pub mod MarkedRows
+pub mod Numbered
 pub mod OfSheets
 pub mod TableAdds
