@@ -4,3 +4,4 @@ pub mod MarkedRows
 pub mod Numbered
 pub mod OfSheets
 pub mod TableAdds
+pub mod TableConsistent

@@ -5,6 +5,7 @@ use Rattle.assignment.specs.Knows.{has, knows}
 use Rattle.assignment.specs.Lattice.{contradiction, inconsistent, Total}
 use Rattle.assignment.specs.declared.assignment.Assignment.{Assignment}
 use Rattle.ruleformat.specs.Contents.{Table, Wanted}
+use Rattle.ruleformat.specs.WellFormed.{TableFits}
 use Rattle.ruleset.specs.Listed.{Rule}
 use Rattle.ruleset.specs.Meaning.{Meaning}
 use Rattle.sheet_rules.specs.Agreement.{agrees}
@@ -50,6 +51,11 @@ TableAdds =
     (t : Table) (a : Assignment) → inconsistent a ≡ false → TableAllows t a → (o : ℕ) (v : Bool) → o < 64
     → (knows (table_reply t a) o v ≡ true → (knows a o v ≡ true) ⊎ TableForces t a o v)
     × ((knows a o v ≡ true) ⊎ TableForces t a o v → knows (table_reply t a) o v ≡ true)
+
+-- a table that a file may hold replies the contradiction or something consistent
+abbrev pub TableConsistent : Type 0
+TableConsistent =
+    (n : ℕ) (t : Table) → TableFits n t → (a : Assignment) → (table_reply t a ≡ contradiction) ⊎ (inconsistent (table_reply t a) ≡ false)
 
 -- a build comes back unchanged from clauses exactly if each has a value that is not lost
 abbrev pub ClausesKeepAllowed : Type 0
