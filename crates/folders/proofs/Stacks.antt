@@ -1,6 +1,6 @@
 -- Folders and stacks keep the promises and allow the builds that the table says.
-use Rattle.std.proofs.Common.{◌≡◌, ℕ, zero, suc, ◌<◌, ◌≤◌, cond, ◌⊎◌, ◌↔◌, List, [], ◌∷◌, ◌++◌, map, length, get_or, sym, refl, ap, ◌∙◌, subst, inl, inr, arith}
-use Rattle.std.proofs.lemmas.List.{get_or_past}
+use Rattle.std.proofs.Common.{◌≡◌, ℕ, zero, suc, ◌<◌, ◌≤◌, min, cond, ◌⊎◌, ◌↔◌, List, [], ◌∷◌, ◌++◌, map, length, get_or, sym, refl, ap, ◌∙◌, subst, inl, inr, arith}
+use Rattle.std.proofs.lemmas.List.{get_or_past, length-map}
 use Rattle.std.proofs.lemmas.Bool.{cases_lt, le-ltb, lt-ltb}
 use Rattle.assignment.specs.Lattice.{contradiction, Total}
 use Rattle.assignment.specs.declared.assignment.Assignment.{Assignment}
@@ -68,8 +68,22 @@ few_reply d m k a = go (cases_lt k 64)
         ∙ sym (ap (λ e. entry_reply e m.reply a)
         (get_or_past (drafted d) k None (omega (arith, d.entries.ok.0, d.few))))
 
+pub folder_count : (es : List Entry) (m : Meaning) → (folder es m).count ≡ min 64 (length es)
+folder_count es m = ap (min 64) (length-map es (λ e. entry_reply e m.reply))
+
 pub folder_replies : FolderReplies
-folder_replies m es k a h inside = ap (λ f. f a) (reply_at es m k h)
+folder_replies m es =
+    record {
+      count = folder_count es m;
+      each = λ k a h inside. ap (λ f. f a) (reply_at es m k h);
+      past = λ k a h. gone k a h (cases_lt k 64);
+    }
+  where
+    gone : (k : ℕ) (a : Assignment) → (folder es m).count ≤ k → (k < 64) ⊎ (64 ≤ k) → (folder es m).reply k a ≡ contradiction
+    gone k a h (inl l) =
+        ap (λ f. f a) (reply_at es m k l)
+        ∙ ap (λ e. entry_reply e m.reply a) (get_or_past es k None (omega (arith, folder_count es m)))
+    gone k a h (inr l) = ap (λ f. f a) (reply_past es m k l)
 
 folder_builds : (es : List Entry) → length es ≤ 32 → (m : Meaning) → Lawful m → (A : Allowed) → Alike (Allows m) A → Alike (Allows (folder es m)) (folder_allows es A)
 folder_builds es few m l A s k b t = go (cases_lt k 64)

@@ -1,4 +1,5 @@
 pub mod Accepted
+pub mod Bodies
 pub mod Each
 pub mod EncodedBytes
 pub mod EncodedClauses

@@ -1,3 +1,4 @@
+pub mod Counts
 pub mod Layers
 pub mod SheetsAllow
 pub mod SheetsHeld

@@ -1,9 +1,10 @@
 // The laws of the rules of a file, as theorems.
-ghost use Rattle.rulestack.specs.Statements.{FileAllows, FileLawful};
+ghost use Rattle.rulestack.specs.Statements.{FileAllows, FileCount, FileLawful};
 
-/// The rules of any contents keep the promises of a rule set, and those of well-formed contents allow exactly the builds
-/// that the sheets and the table of entries say.
+/// The rules of any contents keep the promises of a rule set. Those of well-formed contents are as many as the topmost
+/// folder has entries, and allow exactly the builds that the sheets and the table of entries say.
 pub fn file_laws()
     ensures lawful { FileLawful }
+    ensures count { FileCount }
     ensures builds { FileAllows }
 {}

@@ -1,13 +1,17 @@
 -- What sheets allow and what they add, with no word of replies on the other side.
-use Rattle.std.specs.Prelude.{◌≡◌, ℕ, ◌<◌, Bool, true, false, not, ◌⊎◌, List, [], ◌∷◌, length, slice_index}
+use Rattle.std.specs.Prelude.{◌≡◌, ℕ, ◌<◌, ◌≤◌, min, Bool, true, false, not, ◌⊎◌, List, [], ◌∷◌, length, slice_index, slice_index_or}
 use mathlib.Core.List.{Memᴰ}
 use Rattle.assignment.specs.Knows.{has, knows}
-use Rattle.assignment.specs.Lattice.{inconsistent, Total}
+use Rattle.assignment.specs.Lattice.{contradiction, inconsistent, Total}
 use Rattle.assignment.specs.declared.assignment.Assignment.{Assignment}
 use Rattle.ruleformat.specs.Contents.{Table, Wanted}
+use Rattle.ruleformat.specs.WellFormed.{TableFits}
+use Rattle.ruleset.specs.Listed.{Rule}
+use Rattle.ruleset.specs.Meaning.{Meaning}
 use Rattle.sheet_rules.specs.Agreement.{agrees}
 use Rattle.sheet_rules.specs.ClauseReply.{clauses_reply}
 use Rattle.sheet_rules.specs.Lost.{left, lost}
+use Rattle.sheet_rules.specs.RuleSets.{rules_of_clauses, rules_of_tables}
 use Rattle.sheet_rules.specs.TableReply.{table_reply}
 
 -- some row agrees
@@ -48,6 +52,11 @@ TableAdds =
     → (knows (table_reply t a) o v ≡ true → (knows a o v ≡ true) ⊎ TableForces t a o v)
     × ((knows a o v ≡ true) ⊎ TableForces t a o v → knows (table_reply t a) o v ≡ true)
 
+-- a table that a file may hold replies the contradiction or something consistent
+abbrev pub TableConsistent : Type 0
+TableConsistent =
+    (n : ℕ) (t : Table) → TableFits n t → (a : Assignment) → (table_reply t a ≡ contradiction) ⊎ (inconsistent (table_reply t a) ≡ false)
+
 -- a build comes back unchanged from clauses exactly if each has a value that is not lost
 abbrev pub ClausesKeepAllowed : Type 0
 ClausesKeepAllowed =
@@ -67,3 +76,15 @@ NotLostHad =
     (b : Assignment) (w : Wanted) → Total b → w.option < 64
     → (lost b w ≡ false → knows b w.option (not w.negated) ≡ true)
     × (knows b w.option (not w.negated) ≡ true → lost b w ≡ false)
+
+-- what the k-th of a list replies is what rule k does, of the first 64, and there are no other rules
+pub record OneEach {X : Type 0} (reply : X → Rule) (xs : List X) (rules : Meaning) : Type 0 where
+  pub count : rules.count ≡ min 64 (length xs)
+  pub each : (k : ℕ) (x : X) (a : Assignment) → k < 64 → k < length xs → slice_index_or xs k x ≡ x → rules.reply k a ≡ reply x a
+  pub past : (k : ℕ) (a : Assignment) → rules.count ≤ k → rules.reply k a ≡ contradiction
+
+abbrev pub TablesNumbered : Type 0
+TablesNumbered = (ts : List Table) → OneEach table_reply ts (rules_of_tables ts)
+
+abbrev pub ClausesNumbered : Type 0
+ClausesNumbered = (ss : List (List (List Wanted))) → OneEach clauses_reply ss (rules_of_clauses ss)

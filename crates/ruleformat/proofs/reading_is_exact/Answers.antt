@@ -2,6 +2,7 @@
 use Rattle.std.proofs.Common.{refl}
 use Rattle.ruleformat.specs.Sample.{Sample}
 use Rattle.ruleformat.proofs.Accepted.{accepted_is_encoded}
+use Rattle.ruleformat.proofs.Bodies.{clause_bodies, folder_bodies, table_bodies}
 use Rattle.ruleformat.proofs.Read.{encoded_is_accepted}
 use Rattle.ruleformat.proofs.Refused.{refused_by_first}
 use Rattle.ruleformat.proofs.reading_is_exact.Goals as goal
@@ -29,4 +30,13 @@ computed =
     }
 
 pub returns : goal.returns
-returns c = record { accepted = accepted_is_encoded; encoded = encoded_is_accepted; refused = refused_by_first; sample = computed }
+returns c =
+    record {
+      accepted = accepted_is_encoded;
+      encoded = encoded_is_accepted;
+      refused = refused_by_first;
+      sample = computed;
+      tables = table_bodies;
+      clauses = clause_bodies;
+      folders = folder_bodies;
+    }
