@@ -65,6 +65,11 @@ pub trait Rule {
     fn reply(&self, question: Assignment) -> Assignment;
 }
 
+// Whether there may be so many options.
+fn are_told(options: u32) -> bool {
+    (1..=64).contains(&options)
+}
+
 pub struct Table<'a> {
     columns: &'a [u8],
     rows: &'a [u8],
@@ -74,7 +79,7 @@ impl<'a> Table<'a> {
     pub fn read(options: u32, body: &'a [u8]) -> Option<Table<'a>> {
         let (&count, rest) = body.split_first()?;
         let count = count as usize;
-        if count == 0 || count > 16 || rest.len() < count {
+        if !are_told(options) || count == 0 || count > 16 || rest.len() < count {
             return None;
         }
         let (columns, rows) = rest.split_at(count);
@@ -138,7 +143,7 @@ impl<'a> Clauses<'a> {
             rest = next;
             clauses += 1;
         }
-        (clauses <= 256).then_some(Clauses { body })
+        (are_told(options) && clauses <= 256).then_some(Clauses { body })
     }
 }
 
@@ -213,7 +218,7 @@ pub struct Hiding<R> {
 
 impl<R> Hiding<R> {
     fn new(options: u32, rule: R, hidden: u64) -> Option<Hiding<R>> {
-        let named = (1..=64).contains(&options) && (options == 64 || hidden >> options == 0);
+        let named = options == 64 || hidden >> options == 0;
         (named && hidden.count_ones() <= 16).then_some(Hiding { rule, hidden })
     }
 }

@@ -3,3 +3,4 @@ pub mod LineLaws
 pub mod Lines
 pub mod Numbers
 pub mod Printing
+pub mod ReplyLaws

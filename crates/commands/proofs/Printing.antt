@@ -10,7 +10,7 @@ use Rattle.calls.specs.declared.call.Call.{Call}
 use Rattle.calls.specs.declared.call.Call.TheVariants.{Settle, Back, Again, Look, Next}
 use Rattle.calls.specs.declared.refusal.CallRefusal.TheVariants.{NoCommand}
 use Rattle.commands.specs.Commands.{command_of, Fits, value_word}
-use Rattle.commands.specs.Laws.{LongRefused, ShortCommands, UniqueCommands}
+use Rattle.commands.specs.Laws.{LongRefused, OthersRefused, ReadIfPrinted, ShortCommands, UniqueCommands}
 use Rattle.commands.specs.Numerals.{number_in}
 use Rattle.commands.specs.Parsing.{accepted, begins_with, ends_with, next_in, parsed, settle_in, settlement, valued, word_in}
 use Rattle.commands.proofs.Numbers.{number_printed, numeral_printed}
@@ -182,11 +182,16 @@ short_commands Again h = omega arith
 short_commands Look h = omega arith
 short_commands (Next n) h = omega (arith, length-decimal-le 10 n (omega arith) (omega arith) (omega arith))
 
-pub long_refused : LongRefused
-long_refused line h = go (option_or (option_or (word_in line) (next_in line)) (settle_in line)) refl
+pub read_if_printed : ReadIfPrinted
+read_if_printed line call = (accepted_printed line call, λ h. ap parsed h.1 ∙ printed_accepted call h.0)
+
+pub others_refused : OthersRefused
+others_refused line none = go (option_or (option_or (word_in line) (next_in line)) (settle_in line)) refl
   where
     go : (o : Option Call) → option_or (option_or (word_in line) (next_in line)) (settle_in line) ≡ o → accepted o ≡ Err NoCommand
     go None e = refl
-    go (Some c) e =
-        let printed = accepted_printed line c (ap accepted e) in
-        absurd (omega (arith, short_commands c printed.0, ap length printed.1))
+    go (Some c) e = let printed = accepted_printed line c (ap accepted e) in absurd (none c printed.0 printed.1)
+
+pub long_refused : LongRefused
+long_refused line h =
+    others_refused line (λ call fits at. absurd (omega (arith, short_commands call fits, ap length at)))

@@ -5,3 +5,4 @@ pub mod Numerals
 pub mod Parsing
 pub mod Replies
 pub mod Splitting
+pub mod ReplyLaws

@@ -1,10 +1,14 @@
-// The laws of command lines, and of cutting bytes into them, as theorems.
-ghost use Rattle.commands.specs.Laws.{LongRefused, ShortCommands, UniqueCommands};
+// The laws of command lines, of cutting bytes into them, and of the replies' lines, as theorems.
+ghost use Rattle.commands.specs.Laws.{LongRefused, OthersRefused, ReadIfPrinted, ShortCommands, UniqueCommands};
 ghost use Rattle.commands.specs.Lines.{AllWritten, LinesWritten};
+ghost use Rattle.commands.specs.ReplyLaws.{OneLines, ToldApart};
 ghost use Rattle.commands.specs.Splitting.{SomePending, Splits};
 
-/// A line is the printed form of one call at most, and no command is longer than 21 bytes.
+/// A line is read as a call exactly if it is the call's printed form, and any other is refused. A line is the printed
+/// form of one call at most, and no command is longer than 21 bytes.
 pub fn command_laws()
+    ensures read { ReadIfPrinted }
+    ensures others { OthersRefused }
     ensures unique { UniqueCommands }
     ensures short { ShortCommands }
     ensures long { LongRefused }
@@ -17,4 +21,11 @@ pub fn splitting_laws()
     ensures some { SomePending }
     ensures lines { LinesWritten }
     ensures all { AllWritten }
+{}
+
+/// The lines of the replies have just one line's end, and two replies with the same line are of one kind, with the same
+/// numbers and values.
+pub fn reply_laws()
+    ensures one_line { OneLines }
+    ensures told_apart { ToldApart }
 {}

@@ -12,6 +12,6 @@ mod splitter;
 
 pub use buffer::LINE;
 pub use command::parse_command;
-pub use laws::{command_laws, splitting_laws};
+pub use laws::{command_laws, reply_laws, splitting_laws};
 pub use reply::{write_letters, write_options, write_refused, write_reply};
 pub use splitter::Splitter;

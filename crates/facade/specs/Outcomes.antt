@@ -1,8 +1,9 @@
 -- What a call comes to.
-use Rattle.std.specs.Prelude.{◌≡◌, ℕ, Bool, true, false, ◌⊎◌, List, ◌∷◌, is_ok, Ok, Err, Result, MatchResult, ◌==◌, nat_lt}
+use Rattle.std.specs.Prelude.{◌≡◌, ℕ, Bool, true, false, ◌⊎◌, List, [], ◌∷◌, is_ok, Ok, Err, Result, MatchResult, ◌==◌, nat_lt}
 use Rattle.entries.specs.Fields.{entry_checks}
 use Rattle.entries.specs.declared.entry.Entry.TheVariants.{Projection}
 use Rattle.refusals.specs.Checks.{Check, judged, when}
+use Rattle.refusals.specs.declared.refusal.Refusal.{Refusal}
 use Rattle.refusals.specs.declared.refusal.Refusal.TheVariants.{OutOfRange}
 use Rattle.ruleformat.specs.Encoding.{fields_for}
 use Rattle.ruleset.specs.Listed.{Rule}
@@ -14,12 +15,13 @@ use Rattle.facade.specs.declared.failure.Failure.TheVariants.{Refused, NoMemory}
 abbrev pub passes : {F : Type 0} → List (Check F) → Bool
 passes cs = is_ok (judged cs (tt {0}))
 
+-- the checks of the number of options that is told: 1 to 64
+abbrev pub told : (options : ℕ) → List (Check Refusal)
+told options = when (options == 0) OutOfRange ∷ when (nat_lt 64 options) OutOfRange ∷ []
+
 -- a projection of the one rule below may hide these options, of so many
 unfoldable pub hides : (options hidden : ℕ) → Bool
-hides options hidden =
-    passes
-    (when (options == 0) OutOfRange ∷ when (nat_lt 64 options) OutOfRange
-    ∷ entry_checks options 1 (fields_for (Projection 0 hidden)))
+hides options hidden = passes (entry_checks options 1 (fields_for (Projection 0 hidden)))
 
 -- the number that a call returns
 abbrev pub code_of : Result (Unit {0}) Failure → ℕ

@@ -3,7 +3,7 @@ ghost use Rattle.std.specs.Prelude.{◌&&◌};
 ghost use Rattle.folders.specs.Entries.{project};
 ghost use Rattle.ruleformat.specs.Clauses.{clauses_checks, clauses_of};
 ghost use Rattle.sheet_rules.specs.ClauseReply.{clauses_reply};
-ghost use Rattle.facade.specs.Outcomes.{hides, passes, Outcome};
+ghost use Rattle.facade.specs.Outcomes.{hides, passes, told, Outcome};
 
 use crate::failure::code;
 use crate::sheet::{answer, answer_hiding};
@@ -12,10 +12,10 @@ use std::alloc::Global;
 
 /// Answers questions to the clause sheet that a body holds, with so many options. Each question is two masks, of the
 /// options known yes and of those known no, and the reply's masks take their place. The result is 0; 1 where the body is
-/// refused and 2 where there is no memory, and then the masks stay.
+/// refused, or there are 0 options or more than 64, and 2 where there is no memory, and then the masks stay.
 #[unsafe(no_mangle)]
 pub extern "C" fn answer_clauses(heap: Global, options: u32, body: &[u8], masks: &mut [u64]) -> u32
-    ensures { Outcome (passes (clauses_checks options 0 body.now)) (clauses_reply (clauses_of body.now)) masks.old result masks.new }
+    ensures { Outcome (passes (told options) && passes (clauses_checks options 0 body.now)) (clauses_reply (clauses_of body.now)) masks.old result masks.new }
 {
     code(answer::<ClauseSheet>(heap, options, body, masks))
 }
@@ -29,7 +29,7 @@ pub extern "C" fn answer_clauses_hiding(
     hidden: u64,
     masks: &mut [u64],
 ) -> u32
-    ensures { Outcome (passes (clauses_checks options 0 body.now) && hides options hidden) (project hidden (clauses_reply (clauses_of body.now))) masks.old result masks.new }
+    ensures { Outcome (passes (told options) && passes (clauses_checks options 0 body.now) && hides options hidden) (project hidden (clauses_reply (clauses_of body.now))) masks.old result masks.new }
 {
     code(answer_hiding::<ClauseSheet>(heap, options, body, hidden, masks))
 }

@@ -1,7 +1,9 @@
 -- A body that is refused does not pass; of one that passes there is the one sheet.
-use Rattle.std.proofs.Common.{[], ◌∷◌, ◌++◌, map, sym, ap, ◌∙◌}
+use Rattle.std.proofs.Common.{◌&&◌, [], ◌∷◌, ◌++◌, map, sym, ap, ◌∙◌}
 use Rattle.std.proofs.lemmas.Result.{err_from_is_err_and}
 use Rattle.refusals.proofs.Judged.{judged_value}
+use Rattle.std.proofs.Math.Bool.{and-false}
+use Rattle.facade.specs.Outcomes.{passes, told}
 use Rattle.facade.proofs.Passing.{passes_err, passes_ok}
 use Rattle.facade.proofs.sheet.rules_of.Goals as goal
 
@@ -9,7 +11,9 @@ pub returns-in_err-sheet : goal.returns-in_err-sheet
 returns-in_err-sheet g c =
     let body = c.args.body.now in
     let p = err_from_is_err_and c.from_residual.result c.from_residual.ensures.1 in
-    rw p.1 (λ _. passes_err (g.S.Sheet.checks c.args.options 0 body) body c.in_err-sheet.field-0.0 (sym c.in_err-sheet.ensures))
+    let refused = passes_err (g.S.Sheet.checks c.args.options 0 body) body c.in_err-sheet.field-0.0 (sym c.in_err-sheet.ensures) in
+    let good = passes (told c.args.options) in
+    rw p.1 (λ _. ap (λ b. good && b) refused ∙ and-false good)
 
 pub returns : goal.returns
 returns g c =
@@ -19,6 +23,7 @@ returns g c =
     let checks = g.S.Sheet.checks c.args.options 0 body in
     let ok = sym c.in_ok-sheet.ensures in
     let items = c.push_reserved.ensures.items ∙ ap (λ l. l ++ sheet ∷ []) c.in_ok-sheets.ensures.items in (
+      sym c.is_told.ensures ∙ c.if-not-is_told.false,
       passes_ok checks body (body_of sheet) ok,
       ap (map body_of) (c.new.ensures ∙ items) ∙ ap (λ b. b ∷ []) (judged_value checks body (body_of sheet) ok),
     )
