@@ -1,3 +1,5 @@
+pub mod ExamplesAnswered
+pub mod ExamplesWorked
 pub mod Layers
 pub mod SheetsAllow
 pub mod SheetsHeld
