@@ -34,7 +34,7 @@ one_of {P} {Q} {R} {S} p r = (to, from)
     from (inl x) = inl (p.1 x)
     from (inr x) = inr (r.1 x)
 
-entry_alike : (e : Entry) (A B : Allowed) → Alike A B → (b : Assignment) → Total b → entry_allows e A b ↔ entry_allows e B b
+pub entry_alike : (e : Entry) (A B : Allowed) → Alike A B → (b : Assignment) → Total b → entry_allows e A b ↔ entry_allows e B b
 entry_alike (Carry r) A B s b t = s r b t
 entry_alike (Product r q) A B s b t = both (s r b t) (s q b t)
 entry_alike (Either r q) A B s b t = one_of (s r b t) (s q b t)

@@ -1,3 +1,4 @@
+pub mod AlgebraExamples
 pub mod FileRules
 pub mod Laid
 pub mod Statements

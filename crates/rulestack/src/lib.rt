@@ -6,5 +6,5 @@ mod laws;
 mod space;
 
 pub use building::{RuleStack, ask, build};
-pub use laws::file_laws;
+pub use laws::{algebra_examples, file_laws};
 pub use space::StackSpace;
