@@ -53,6 +53,14 @@ step o s Again = done_or_refused Done s s.settlements
 step o s Look = record { reply = look_answer o s.settlements; state = s }
 step o s (Next budget) = after_next s (run_on (asked o) o.order (known_with o s.settlements) budget s.place)
 
+-- what is said of each call that asks no rule; of a look and a next nothing
+abbrev pub unasked : Call → Type 0 → Type 0
+unasked (Settle option v) said = said
+unasked Back said = said
+unasked Again said = said
+unasked Look said = Unit {0}
+unasked (Next budget) said = Unit {0}
+
 -- what a reply says of the place, or else what was said before
 abbrev pub stands_by : Reply → Place → Type 0 → Type 0
 stands_by Done p before = before

@@ -2,7 +2,7 @@
 ghost use Rattle.std.specs.Prelude.{◌≡◌, ◌∷◌};
 ghost use Rattle.enquiry.specs.Histories.{History};
 ghost use Rattle.enquiry.specs.RunLaw.{called, Holds};
-ghost use Rattle.enquiry.specs.States.{step};
+ghost use Rattle.enquiry.specs.States.{step, unasked};
 ghost use Rattle.enquiry.specs.Views.{done_view, opening_of, state_of};
 
 use super::Enquiry;
@@ -16,6 +16,7 @@ impl<R: RuleSet> Enquiry<R> {
         ensures reply { result ≡ (step (opening_of (R.RuleSet.meaning self.old.rules) self.old) (state_of self.old) call).reply }
         ensures state { state_of self.new ≡ (step (opening_of (R.RuleSet.meaning self.old.rules) self.old) (state_of self.old) call).state }
         ensures same { opening_of (R.RuleSet.meaning self.new.rules) self.new ≡ opening_of (R.RuleSet.meaning self.old.rules) self.old }
+        ensures rules { unasked call (self.new.rules ≡ self.old.rules) }
         ensures law { (h : History) → Holds (opening_of (R.RuleSet.meaning self.old.rules) self.old) (record { history = h; state = state_of self.old }) → Holds (opening_of (R.RuleSet.meaning self.new.rules) self.new) (record { history = record { call = call; reply = result } ∷ h; state = state_of self.new }) }
     {
         self.act(call)
@@ -26,6 +27,7 @@ impl<R: RuleSet> Enquiry<R> {
         ensures reply { result ≡ (step (opening_of (R.RuleSet.meaning self.old.rules) self.old) (state_of self.old) call).reply }
         ensures state { state_of self.new ≡ (step (opening_of (R.RuleSet.meaning self.old.rules) self.old) (state_of self.old) call).state }
         ensures same { opening_of (R.RuleSet.meaning self.new.rules) self.new ≡ opening_of (R.RuleSet.meaning self.old.rules) self.old }
+        ensures rules { unasked call (self.new.rules ≡ self.old.rules) }
     {
         match call {
             Call::Settle { option, value } => done_or_refused(self.settle(option, value)),
