@@ -1,4 +1,5 @@
 pub mod ByMasks
 pub mod Complement
+pub mod FirstBits
 pub mod FullMasks
 pub mod Shifts

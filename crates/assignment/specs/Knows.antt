@@ -1,5 +1,5 @@
 -- What an assignment knows of one option.
-use Rattle.std.specs.Prelude.{◌≡◌, ℕ, ◌/◌, ◌%◌, ◌^◌, ◌<◌, Bool, true, false, ◌||◌, ◌⊎◌, ◌==◌}
+use Rattle.std.specs.Prelude.{◌≡◌, ℕ, ◌/◌, ◌%◌, ◌^◌, ◌<◌, ◌≤◌, Bool, true, false, ◌||◌, ◌⊎◌, ◌==◌}
 use Rattle.assignment.specs.declared.assignment.Assignment.{Assignment}
 use Rattle.assignment.specs.declared.value.Value.{Value}
 use Rattle.assignment.specs.declared.value.Value.TheVariants.{Unknown, Yes, No, Inconsistent}
@@ -7,6 +7,10 @@ use Rattle.assignment.specs.declared.value.Value.TheVariants.{Unknown, Yes, No, 
 -- whether bit i of a mask is set
 abbrev pub has : ℕ → ℕ → Bool
 has mask i = mask / 2 ^ i % 2 == 1
+
+-- some bit from `first` on is set
+abbrev pub HasFrom : (first mask : ℕ) → Type 0
+HasFrom first mask = (i : ℕ) × (first ≤ i) × (has mask i ≡ true)
 
 -- the value that two answers, known yes and known no, make together
 abbrev pub value_from : Bool → Bool → Value
@@ -34,3 +38,7 @@ Build a = (o : ℕ) → o < 64 → (value_of a o ≡ Yes) ⊎ (value_of a o ≡ 
 -- of each option that is not in the mask something is known
 abbrev pub KnownOutside : ℕ → Assignment → Type 0
 KnownOutside hidden a = (o : ℕ) → o < 64 → has hidden o ≡ false → known a o ≡ true
+
+-- some option is known both yes and no
+abbrev pub KnownBothWays : Assignment → Type 0
+KnownBothWays a = (o : ℕ) × (o < 64) × (knows a o true ≡ true) × (knows a o false ≡ true)

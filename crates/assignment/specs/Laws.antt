@@ -1,6 +1,6 @@
 -- The laws of assignments. What is built on assignments cites these, and looks no further down than options.
 use Rattle.std.specs.Prelude.{◌≡◌, ℕ, ◌+◌, ◌-◌, ◌%◌, ◌^◌, ◌<◌, ◌≤◌, Bool, true, false, cond, not, ◌&&◌, ◌||◌, ltb, ◌⊎◌, ◌==◌, ◌≢◌, bit_and, bit_or, nat_le, nat_lt, refl}
-use Rattle.std.specs.Cmp.{IsPartialEquivalence, both_ways as same_answer}
+use Rattle.std.specs.Cmp.{both_ways as same_answer}
 use Rattle.std.proofs.Math.Bridge.{le_prop}
 use Rattle.std.proofs.Common.{add_comm, lt_of_le_of_lt, arith, inl, inr, sym, ap, ap₂, subst, ◌∙◌}
 use Rattle.std.specs.Bool.{beq}
@@ -23,10 +23,6 @@ masks_equal a b y n =
       no = n i;
       fits = is_prop→PathP (λ j. (y j < 2 ^ 64) × (n j < 2 ^ 64)) (λ j. ×_prop le_prop le_prop) a.fits b.fits i;
     }
-
--- what is known goes by the masks
-pub masks_know : (a b : Assignment) → a.yes ≡ b.yes → a.no ≡ b.no → (o : ℕ) (v : Bool) → knows a o v ≡ knows b o v
-masks_know a b y n o v = ap (λ c. knows c o v) (masks_equal a b y n)
 
 -- assignments that know the same of every option are equal
 pub by_options : (a b : Assignment) → ((o : ℕ) → o < 64 → (v : Bool) → knows a o v ≡ knows b o v) → a ≡ b
@@ -272,9 +268,6 @@ whole_mono {b} {a} r = go (inconsistent b) refl (inconsistent a) refl
 pub put_above : (i : ℕ) (v : Bool) (a : Assignment) → Refines (put i v a) a
 put_above i v a = refines_by (put i v a) a (λ o h w k. put_knows i v a o w h ∙ or_left (knows a o w) _ k)
 
-pub put_made : (r : Assignment) (i : ℕ) (v : Bool) (a : Assignment) → r ≡ put i v a → (o : ℕ) (w : Bool) → o < 64 → knows r o w ≡ (knows a o w || (i == o && beq v w))
-put_made r i v a e o w h = ap (λ b. knows b o w) e ∙ put_knows i v a o w h
-
 pub put_has : (i : ℕ) (v : Bool) (a : Assignment) → i < 64 → knows (put i v a) i v ≡ true
 put_has i v a h =
     put_knows i v a i v h
@@ -393,14 +386,6 @@ unfolding same
 true_same a b e =
     and_from (a.yes == b.yes) (a.no == b.no) (eq-eqb a.yes b.yes (ap (λ c. c.yes) e))
     (eq-eqb a.no b.no (ap (λ c. c.no) e))
-
--- `same` answers alike from both sides, and along a chain
-pub same_laws : IsPartialEquivalence same
-same_laws =
-    record {
-      symm = λ a b. same_answer (same a b) (same b a) (λ e. true_same b a (sym (same_true a b e))) (λ e. true_same a b (sym (same_true b a e)));
-      trans = λ a b c d e. true_same a c (same_true a b d ∙ same_true b c e);
-    }
 
 -- hidden options
 

@@ -3,4 +3,5 @@ pub mod Lattice
 pub mod Laws
 pub mod Masks
 pub mod Options
+pub mod Precision
 pub mod Size

@@ -1,7 +1,7 @@
 -- Bits of masks: what the operations on masks do bit by bit, and that a mask is its bits.
 use Rattle.std.specs.Prelude.{◌≡◌, ℕ, zero, suc, ◌+◌, ◌-◌, ◌*◌, ◌/◌, ◌%◌, ◌^◌, ◌<◌, ◌≤◌, min, max, Bool, true, false, not, ◌&&◌, ◌||◌, ◌⊎◌, ◌==◌, bit_and, bit_or, bit_xor, nat_eq, nat_le, nat_lt, refl}
-use Rattle.std.proofs.Common.{add_comm, lt_of_lt_of_le, mod-lt, mul_assoc, zero-mul, arith, inl, inr, sym, ap, ◌∙◌, pow-add, pow_mono, pow_pos, shr-shr}
-use Rattle.std.proofs.Math.Nat.{div-eq_of_lt, mul-mod_left, zero-mod}
+use Rattle.std.proofs.Common.{add_comm, lt_of_lt_of_le, mod-lt, mul_assoc, arith, inl, inr, sym, ap, ◌∙◌, pow-add, pow_mono, pow_pos, shr-shr}
+use Rattle.std.proofs.Math.Nat.{div-eq_of_lt, mul-mod_left}
 use Rattle.std.proofs.lemmas.Nat.{shr_split}
 use Rattle.std.proofs.lemmas.Nat.Bits.{bit_at_above, bit_at_and, bit_at_cat_high, bit_at_cat_low, bit_at_ones, bit_at_or, bit_at-pow_other, bit_at-pow_same, bit_at_xor, bit_at-zero, same_from_bits_below}
 use Rattle.std.specs.Int.{bit_at}
@@ -133,13 +133,3 @@ has_moved from to width m i h =
     has_low (part * 2 ^ to) 64 i ∙ ap (λ b. b && has (part * 2 ^ to) i) (lt-ltb i 64 h) ∙ has_raised part to i
     ∙ ap (λ b. nat_le to i && b)
     (has_low (m / 2 ^ from) width (i - to) ∙ ap (λ b. nat_lt (i - to) width && b) (has_down m from (i - to)))
-
-pub moved_from_above : (from to width m : ℕ) → 64 ≤ from → m < 2 ^ 64 → moved from to width m ≡ 0
-unfolding moved
-moved_from_above from to width m h fits =
-    ap (λ n. n % 2 ^ width * 2 ^ to % 2 ^ 64) (down_past m from fits h) ∙ ap (λ n. n * 2 ^ to % 2 ^ 64) (zero-mod (2 ^ width))
-    ∙ ap (λ n. n % 2 ^ 64) (zero-mul (2 ^ to))
-
-pub moved_to_above : (from to width m : ℕ) → 64 ≤ to → moved from to width m ≡ 0
-unfolding moved
-moved_to_above from to width m h = up_past (m / 2 ^ from % 2 ^ width) to h

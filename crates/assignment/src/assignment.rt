@@ -2,9 +2,11 @@
 ghost use Rattle.std.specs.Prelude.{◌^◌, ◌<◌};
 
 mod algebra;
+mod laws;
 mod methods;
 
 pub use algebra::equality_laws;
+pub use laws::precision_laws;
 
 /// Option i is known yes where bit i of `yes` is set, and known no where bit i of `no` is.
 /// It is unknown where neither is set, and inconsistent where both are.

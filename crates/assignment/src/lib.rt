@@ -5,6 +5,6 @@ mod assignment;
 mod mask;
 mod value;
 
-pub use assignment::{Assignment, equality_laws};
+pub use assignment::{Assignment, equality_laws, precision_laws};
 pub use mask::{has_bit, has_bit_from};
 pub use value::Value;

@@ -1,8 +1,8 @@
 // Tests on a mask of 64 bits.
 #![tactic(auto, using(crate::proofs::Shifts::shifts), unfolding(crate::specs::Masks::moved))]
 
-ghost use Rattle.std.specs.Prelude.{◌≡◌, ◌%◌, ◌^◌, nat_le};
-ghost use Rattle.assignment.specs.Knows.{has};
+ghost use Rattle.std.specs.Prelude.{◌≡◌, ◌%◌, ◌^◌, Decides, nat_le};
+ghost use Rattle.assignment.specs.Knows.{has, HasFrom};
 ghost use Rattle.assignment.specs.Lattice.{bits_from, one, shared as shared_bits};
 ghost use Rattle.assignment.specs.Masks.{moved};
 
@@ -19,7 +19,8 @@ pub fn has_bit(mask: u64, option: u32) -> bool
 
 /// Whether some bit at `first` or above is set.
 pub fn has_bit_from(mask: u64, first: u32) -> bool
-    ensures { result ≡ nat_le (2 ^ first) mask }
+    ensures answer { result ≡ nat_le (2 ^ first) mask }
+    ensures bits { Decides result (HasFrom first mask) }
 {
     first < 64 && mask >= 1 << first
 }

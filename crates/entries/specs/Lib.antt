@@ -1,3 +1,4 @@
+pub mod Accepts
 pub mod Drafts
 pub mod Fields
 pub mod Ops

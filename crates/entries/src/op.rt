@@ -1,7 +1,7 @@
 // The ops of entries, and the codes that stand for them.
 ghost use Rattle.std.specs.Prelude.{◌≡◌};
 ghost use Rattle.refusals.specs.declared.refusal.Refusal.TheVariants.{OutOfRange};
-ghost use Rattle.entries.specs.Ops.{Decodes};
+ghost use Rattle.entries.specs.Ops.{code_of, Decodes};
 
 use refusals::Refusal;
 
@@ -15,6 +15,15 @@ pub enum Op {
     Projection = 4,
     Complement = 5,
     None = 6,
+}
+
+impl Op {
+    /// The code that stands for the op in a rule file.
+    pub fn code(self) -> u8
+        ensures { result ≡ code_of self }
+    {
+        self as u8
+    }
 }
 
 /// A code that stands for no op.

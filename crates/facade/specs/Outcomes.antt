@@ -5,7 +5,7 @@ use Rattle.entries.specs.declared.entry.Entry.TheVariants.{Projection}
 use Rattle.refusals.specs.Checks.{Check, judged, when}
 use Rattle.refusals.specs.declared.refusal.Refusal.{Refusal}
 use Rattle.refusals.specs.declared.refusal.Refusal.TheVariants.{OutOfRange}
-use Rattle.ruleformat.specs.Encoding.{fields_for}
+use Rattle.entries.specs.Accepts.{fields_for}
 use Rattle.ruleset.specs.Listed.{Rule}
 use Rattle.facade.specs.Questions.{answered}
 use Rattle.facade.specs.declared.failure.Failure.{Failure}

@@ -17,7 +17,7 @@ pub(crate) fn hiding(heap: Global, options: u32, hidden: u64) -> Result<Draft, F
     let space = EntrySpace::reserve(heap)?;
     let mut draft = Draft::new(space, options, 1);
     draft.add(EntryFields {
-        op: Op::Projection as u8,
+        op: Op::Projection.code(),
         first: 0,
         second: 0,
         third: 0,

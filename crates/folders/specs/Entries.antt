@@ -23,7 +23,8 @@ project hidden f a =
     cond (inconsistent a) contradiction
     (cond (known_outside hidden a && not (fits_below hidden f a)) contradiction (shown_reply hidden f a))
 
--- A build that the rule below gives back is excluded, and nothing else is changed.
+-- An inconsistent question gets the contradiction, and so does a build that the rule below gives back. Any other question
+-- comes back.
 abbrev pub exclude : Rule → Rule
 exclude f a = cond (inconsistent a) contradiction (cond (total a && same (f a) a) contradiction a)
 

@@ -82,7 +82,7 @@ fn put_back(found: Assignment, hidden: u64, question: Assignment) -> Assignment
     found.without(hidden).join(question.only(hidden))
 }
 
-// A build that is allowed below is excluded; nothing else is changed.
+// An inconsistent question gets the contradiction, and so does a build that is allowed below; any other comes back.
 #[tactic(auto, unfolding(assignment::specs::Lattice::same))]
 fn complement<R: RuleSet>(below: &mut R, rule: u32, question: Assignment) -> Assignment
     ensures answer { result ≡ exclude ((R.RuleSet.meaning below.old).reply rule) question }

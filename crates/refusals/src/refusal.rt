@@ -1,4 +1,4 @@
-// The reasons for which a rule file, or a call about its contents, is refused.
+// The reasons for which a rule file or a part of it, an entry for a draft, or the opening of an enquiry is refused.
 ghost use Rattle.std.specs.Prelude.{◌≡◌};
 ghost use Rattle.refusals.specs.Numbers.{number_of};
 

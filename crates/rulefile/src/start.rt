@@ -19,6 +19,7 @@ pub(crate) struct Start {
 }
 
 // The start that a body holds, or why it is refused.
+#[tactic(auto, unfolding(assignment::specs::Lattice::inconsistent))]
 pub(crate) fn read_start(body: Body<'_>) -> Result<Start, FileFault>
     ensures { seen start_view result ≡ judged (start_checks body.entry.place body.entry.bytes.now) (start_in body.entry.bytes.now) }
 {

@@ -14,7 +14,7 @@ use Rattle.ruleformat.specs.Records.{body, body_size, head_checks, kind, one_too
 use Rattle.ruleformat.specs.WellFormed.{Each, WellFormed}
 use Rattle.ruleformat.proofs.Each.{each_drop, each_take}
 use Rattle.ruleformat.proofs.Held.{Held, one_more, started}
-use Rattle.ruleformat.proofs.Passing.{Passing, accepted_passes, passing_parts, passing_unwrapped}
+use Rattle.refusals.proofs.Passing.{Passing, accepted_passes, passing_parts, passing_unwrapped}
 use Rattle.ruleformat.proofs.Pieces.{pieces_more}
 use Rattle.ruleformat.proofs.Records.{record_encoded}
 use Rattle.ruleformat.proofs.Turns.{known_kind}

@@ -10,7 +10,7 @@ use Rattle.ruleformat.specs.Encoding.{encode_clause, encode_sheet, encode_wanted
 use Rattle.ruleformat.specs.Laws.{Byte}
 use Rattle.ruleformat.specs.WellFormed.{ClauseFits, ClausesFit, Each, Rising, option}
 use Rattle.ruleformat.proofs.Each.{each_joined, each_map}
-use Rattle.ruleformat.proofs.Passing.{Passing, passing_append}
+use Rattle.refusals.proofs.Passing.{Passing, passing_append}
 use Rattle.ruleformat.proofs.Pieces.{pieces_joined}
 
 -- the byte of an option o below 64 that is wanted no where g

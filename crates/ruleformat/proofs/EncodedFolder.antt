@@ -1,20 +1,20 @@
 -- An encoded folder reads back as its entries, and passes its checks where they fit.
 use Rattle.std.proofs.Common.{◌≡◌, ℕ, ◌+◌, ◌*◌, ◌%◌, ◌^◌, ◌<◌, ◌≤◌, false, not, ◌||◌, eqb, ltb, List, [], ◌∷◌, ◌++◌, map, length, sym, refl, ap, ◌∙◌, subst, ap₂, arith, pow_mono}
-use lib.Count.{ones}
-use Rattle.std.proofs.lemmas.Bool.{le-ltb, lt-leb}
 use Rattle.std.proofs.lemmas.Bool.Decides.{nat_tests}
 use Rattle.refusals.specs.Checks.{within}
+use Rattle.entries.specs.Accepts.{EntryFits, fields_for}
 use Rattle.entries.specs.Fields.{entry_checks, entry_of}
 use Rattle.entries.specs.declared.entry.Entry.{Entry}
 use Rattle.entries.specs.declared.entry.Entry.TheVariants as entry
 use Rattle.entries.specs.declared.fields.EntryFields.{EntryFields}
-use Rattle.ruleformat.specs.Encoding.{encode_entries, encode_entry, encode_fields, fields_for}
+use Rattle.ruleformat.specs.Encoding.{encode_entries, encode_entry, encode_fields}
 use Rattle.ruleformat.specs.Folders.{at_entry, entries_checks, entries_of, entry_in, entry_pieces, entry_size, fields_of, folder_checks}
 use Rattle.ruleformat.specs.Laws.{Byte}
-use Rattle.ruleformat.specs.WellFormed.{Each, EntryFits, FolderFits}
+use Rattle.ruleformat.specs.WellFormed.{Each, FolderFits}
+use Rattle.entries.proofs.Accepting.{entry_is, entry_passes}
 use Rattle.ruleformat.proofs.Each.{each_joined, each_map}
 use Rattle.ruleformat.proofs.Numbers.{bytes_each, number_of_bytes}
-use Rattle.ruleformat.proofs.Passing.{Passing, passing_append, passing_within}
+use Rattle.refusals.proofs.Passing.{Passing, passing_append, passing_within}
 use Rattle.ruleformat.proofs.Pieces.{pieces_joined}
 
 fields_read : (f : EntryFields) (tail : List ℕ) → f.word < 2 ^ 64 → fields_of (encode_fields f ++ tail) ≡ f
@@ -47,26 +47,6 @@ module _ (n below : ℕ) (few : n ≤ 64) where
   word_small (entry.Complement r) h = omega arith
   word_small entry.None h = omega arith
 
-  entry_is : (e : Entry) → EntryFits n below e → entry_of (fields_for e) ≡ e
-  entry_is (entry.Carry r) h = refl
-  entry_is (entry.Product a b) h = refl
-  entry_is (entry.Either a b) h = refl
-  entry_is (entry.Selection r a b w) h = let e : w % 256 ≡ w = omega arith in ap (entry.Selection r a b) e
-  entry_is (entry.Projection r hidden) h = refl
-  entry_is (entry.Complement r) h = refl
-  entry_is entry.None h = refl
-
-  entry_passes : (e : Entry) → EntryFits n below e → Passing (entry_checks n below (fields_for e))
-  entry_passes (entry.Carry r) h = (refl, (refl, (lt-leb below r h, (refl, (refl, (refl, (refl, tt)))))))
-  entry_passes (entry.Product a b) h = (refl, (refl, (grind (arith, nat_tests), (refl, (refl, (refl, (refl, tt)))))))
-  entry_passes (entry.Either a b) h = (refl, (refl, (grind (arith, nat_tests), (refl, (refl, (refl, (refl, tt)))))))
-  entry_passes (entry.Selection r a b w) h =
-      (refl, (refl, (lt-leb below r h.0, (grind (arith, nat_tests), (grind (arith, nat_tests), (grind (arith, nat_tests), (refl, tt)))))))
-  entry_passes (entry.Projection r hidden) h =
-      (refl, (refl, (lt-leb below r h.0, (refl, (lt-leb (2 ^ n) hidden h.1, (refl, (le-ltb 16 (ones hidden) h.2, tt)))))))
-  entry_passes (entry.Complement r) h = (refl, (refl, (lt-leb below r h, (refl, (refl, (refl, (refl, tt)))))))
-  entry_passes entry.None h = (refl, (refl, (refl, (refl, (refl, (refl, (refl, tt)))))))
-
   entry_bytes : below ≤ 32 → (e : Entry) → EntryFits n below e → Each Byte (encode_entry e)
   entry_bytes low (entry.Carry r) h = fields_bytes (fields_for (entry.Carry r)) (omega arith)
   entry_bytes low (entry.Product a b) h = fields_bytes (fields_for (entry.Product a b)) (omega arith)
@@ -80,7 +60,7 @@ module _ (n below : ℕ) (few : n ≤ 64) where
   entries_read [] h = refl
   entries_read (e ∷ es) h =
       ap (map entry_in) (first_entry e es)
-      ∙ ap₂ ◌∷◌ (ap entry_of (fields_read (fields_for e) (encode_entries es) (word_small e h.0)) ∙ entry_is e h.0)
+      ∙ ap₂ ◌∷◌ (ap entry_of (fields_read (fields_for e) (encode_entries es) (word_small e h.0)) ∙ entry_is n below e h.0)
       (entries_read es h.1)
 
   entries_pass : (place i : ℕ) (es : List Entry) → Each (EntryFits n below) es → Passing (entries_checks n below place i (entry_pieces (encode_entries es)))
@@ -92,7 +72,7 @@ module _ (n below : ℕ) (few : n ≤ 64) where
       (passing_append (within (at_entry place i) (entry_checks n below (fields_of rest)))
       (entries_checks n below place (i + 1) (entry_pieces (encode_entries es)))
       (passing_within (at_entry place i) (entry_checks n below (fields_of rest))
-      (subst (λ f. Passing (entry_checks n below f)) same (entry_passes e h.0)))
+      (subst (λ f. Passing (entry_checks n below f)) same (entry_passes n below e h.0)))
       (entries_pass place (i + 1) es h.1))
 
   module _ (es : List Entry) (fits : FolderFits n below es) where

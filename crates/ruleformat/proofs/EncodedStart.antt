@@ -10,7 +10,7 @@ use Rattle.ruleformat.specs.Starts.{no_mask, start_checks, with_start, yes_mask}
 use Rattle.ruleformat.specs.WellFormed.{Each, WellFormed}
 use Rattle.ruleformat.proofs.Each.{each_append}
 use Rattle.ruleformat.proofs.Numbers.{bytes_each, number_of_bytes}
-use Rattle.ruleformat.proofs.Passing.{Passing}
+use Rattle.refusals.proofs.Passing.{Passing}
 
 -- what is held after the start of c, with so many sheets and folders read after it
 abbrev pub so_far : Contents → List Table → List (List (List Wanted)) → List (List Entry) → Contents

@@ -11,7 +11,7 @@ use Rattle.ruleformat.specs.Tables.{column_checks, columns_of, row_checks, row_o
 use Rattle.ruleformat.specs.WellFormed.{Each, Rising, TableFits}
 use Rattle.ruleformat.proofs.Each.{each_append, each_joined, each_map}
 use Rattle.ruleformat.proofs.Numbers.{bytes_each, two_of_bytes}
-use Rattle.ruleformat.proofs.Passing.{Passing, passing_append}
+use Rattle.refusals.proofs.Passing.{Passing, passing_append}
 use Rattle.ruleformat.proofs.Pieces.{pieces_joined}
 
 abbrev encode_rows : List ℕ → List ℕ

@@ -8,7 +8,7 @@ use Rattle.ruleformat.specs.Encoding.{encode_clause, encode_sheet, encode_wanted
 use Rattle.ruleformat.specs.Laws.{Byte}
 use Rattle.ruleformat.specs.WellFormed.{ClauseFits, ClausesFit, Each, Rising, option}
 use Rattle.ruleformat.proofs.Each.{each_drop, each_take}
-use Rattle.ruleformat.proofs.Passing.{Passing, passing_parts}
+use Rattle.refusals.proofs.Passing.{Passing, passing_parts}
 use Rattle.ruleformat.proofs.Pieces.{Kept, pieces_encoded, pieces_keep}
 
 wanted_encoded : (b : ℕ) → b < 256 → bit_six b ≡ false → encode_wanted (wanted_of b) ≡ b

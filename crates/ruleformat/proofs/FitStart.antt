@@ -11,7 +11,7 @@ use Rattle.ruleformat.specs.Starts.{no_mask, start_checks, start_options, with_s
 use Rattle.ruleformat.specs.WellFormed.{Each}
 use Rattle.ruleformat.proofs.Each.{each_drop}
 use Rattle.ruleformat.proofs.Numbers.{number_in}
-use Rattle.ruleformat.proofs.Passing.{Passing}
+use Rattle.refusals.proofs.Passing.{Passing}
 
 pub record StartFits (n yes no : ℕ) : Type 0 where
   pub some_option : 1 ≤ n

@@ -11,7 +11,7 @@ use Rattle.ruleformat.specs.Tables.{column_checks, columns_of, row_checks, row_o
 use Rattle.ruleformat.specs.WellFormed.{Each, Rising, TableFits}
 use Rattle.ruleformat.proofs.Each.{each_drop}
 use Rattle.ruleformat.proofs.Numbers.{two_encoded}
-use Rattle.ruleformat.proofs.Passing.{Passing, passing_parts}
+use Rattle.refusals.proofs.Passing.{Passing, passing_parts}
 use Rattle.ruleformat.proofs.Pieces.{Kept, even_pieces, pieces_encoded, pieces_keep}
 
 columns_rise : (n place i low : ℕ) (cs : List ℕ) → Passing (column_checks n place i low cs) → Rising n low cs

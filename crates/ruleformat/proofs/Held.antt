@@ -20,7 +20,7 @@ use Rattle.ruleformat.proofs.FitClauses.{sheet_fits}
 use Rattle.ruleformat.proofs.FitFolder.{folder_fits}
 use Rattle.ruleformat.proofs.FitStart.{StartFits, start_fits}
 use Rattle.ruleformat.proofs.FitTable.{table_fits}
-use Rattle.ruleformat.proofs.Passing.{Passing, passing_unwrapped}
+use Rattle.refusals.proofs.Passing.{Passing, passing_unwrapped}
 use Rattle.ruleformat.proofs.Rules.{folders_push, rules_top}
 use Rattle.ruleformat.proofs.Turns.{follows, known_kind}
 

@@ -12,7 +12,6 @@ pub mod FitStart
 pub mod FitTable
 pub mod Held
 pub mod Numbers
-pub mod Passing
 pub mod Pieces
 pub mod Read
 pub mod Records

@@ -18,7 +18,7 @@ use Rattle.ruleformat.proofs.EncodedClauses.{sheet_length, sheet_passes, sheet_r
 use Rattle.ruleformat.proofs.EncodedFolder.{folder_length, folder_passes, folder_read}
 use Rattle.ruleformat.proofs.EncodedStart.{so_far, start_passes, start_read}
 use Rattle.ruleformat.proofs.EncodedTable.{table_length, table_passes, table_read}
-use Rattle.ruleformat.proofs.Passing.{Passing, passing_accepts, passing_within}
+use Rattle.refusals.proofs.Passing.{Passing, passing_accepts, passing_within}
 use Rattle.ruleformat.proofs.Rules.{rules_top, top_push}
 use Rattle.ruleformat.proofs.Turns.{may_follow}
 use Rattle.ruleformat.proofs.Walk.{Fits, Reads, reads_record}

@@ -8,7 +8,7 @@ use Rattle.ruleformat.specs.Encoding.{encode_record}
 use Rattle.ruleformat.specs.Kinds.{out_of_turn, unknown}
 use Rattle.ruleformat.specs.Reading.{body_checks, checks_from, held_from, record_checks, with_record}
 use Rattle.ruleformat.specs.Records.{body, head_checks, kind, one_too_many, record_size, records}
-use Rattle.ruleformat.proofs.Passing.{Passing, passing_append, passing_within}
+use Rattle.refusals.proofs.Passing.{Passing, passing_append, passing_within}
 use Rattle.ruleformat.proofs.Records.{body_of_record, body_size_of_record, kind_of_record, length_of_record, records_of_record}
 use Rattle.ruleformat.proofs.Turns.{known_kind}
 

@@ -2,8 +2,8 @@
 -- they are, so an encoding is meant for well-formed contents only.
 use Rattle.std.specs.Prelude.{ℕ, zero, suc, ◌+◌, ◌/◌, ◌%◌, cond, List, [], ◌∷◌, ◌++◌, map, length}
 use Rattle.std.specs.List.{flat_map}
+use Rattle.entries.specs.Accepts.{fields_for}
 use Rattle.entries.specs.declared.entry.Entry.{Entry}
-use Rattle.entries.specs.declared.entry.Entry.TheVariants as entry
 use Rattle.entries.specs.declared.fields.EntryFields.{EntryFields}
 use Rattle.ruleformat.specs.Contents.{Contents, Table, Wanted}
 
@@ -26,16 +26,6 @@ encode_clause ws = length ws ∷ map encode_wanted ws
 
 abbrev pub encode_sheet : List (List Wanted) → List ℕ
 encode_sheet cs = flat_map encode_clause cs
-
--- the code of each op, written out here, as the kinds of records are
-abbrev pub fields_for : Entry → EntryFields
-fields_for (entry.Carry r) = record { op = 0; first = r; second = 0; third = 0; word = 0 }
-fields_for (entry.Product a b) = record { op = 1; first = a; second = b; third = 0; word = 0 }
-fields_for (entry.Either a b) = record { op = 2; first = a; second = b; third = 0; word = 0 }
-fields_for (entry.Selection r a b w) = record { op = 3; first = r; second = a; third = b; word = w }
-fields_for (entry.Projection r hidden) = record { op = 4; first = r; second = 0; third = 0; word = hidden }
-fields_for (entry.Complement r) = record { op = 5; first = r; second = 0; third = 0; word = 0 }
-fields_for entry.None = record { op = 6; first = 0; second = 0; third = 0; word = 0 }
 
 abbrev pub encode_fields : EntryFields → List ℕ
 encode_fields f = f.op ∷ f.first ∷ f.second ∷ f.third ∷ bytes_of 8 f.word

@@ -1,7 +1,7 @@
 -- Which contents a rule file may hold. Nothing here speaks of bytes, but for the length of a file.
-use Rattle.std.specs.Prelude.{◌≡◌, ℕ, ◌+◌, ◌^◌, ◌<◌, ◌≤◌, ◌⊎◌, List, [], ◌∷◌, map, length, bit_and, count_ones}
+use Rattle.std.specs.Prelude.{◌≡◌, ℕ, ◌+◌, ◌^◌, ◌<◌, ◌≤◌, List, [], ◌∷◌, map, length, bit_and}
+use Rattle.entries.specs.Accepts.{EntryFits}
 use Rattle.entries.specs.declared.entry.Entry.{Entry}
-use Rattle.entries.specs.declared.entry.Entry.TheVariants as entry
 use Rattle.ruleformat.specs.Contents.{Contents, Table, Wanted}
 use Rattle.ruleformat.specs.Encoding.{encode}
 
@@ -36,17 +36,6 @@ pub record ClauseFits (n : ℕ) (ws : List Wanted) : Type 0 where
 pub record ClausesFit (n : ℕ) (cs : List (List Wanted)) : Type 0 where
   pub few_clauses : length cs ≤ 256
   pub each_fits : Each (ClauseFits n) cs
-
--- an entry with n options over a count of rules below
-abbrev pub EntryFits : (n below : ℕ) → Entry → Type 0
-EntryFits n below (entry.Carry r) = r < below
-EntryFits n below (entry.Product a b) = (a < below) × (b < below)
-EntryFits n below (entry.Either a b) = (a < below) × (b < below)
-EntryFits n below (entry.Selection r a b w) =
-    (r < below) × (1 ≤ w) × (w ≤ 32) × (a + w ≤ n) × (b + w ≤ n) × ((a + w ≤ b) ⊎ (b + w ≤ a))
-EntryFits n below (entry.Projection r hidden) = (r < below) × (hidden < 2 ^ n) × (count_ones hidden ≤ 16)
-EntryFits n below (entry.Complement r) = r < below
-EntryFits n below entry.None = Unit {0}
 
 -- 1 to 32 entries
 pub record FolderFits (n below : ℕ) (es : List Entry) : Type 0 where

@@ -171,7 +171,7 @@ pub(crate) fn fields_of(entry: &str) -> Result<EntryFields, Fail> {
     let mut words = entry.split_whitespace();
     let op = op_of(words.next().ok_or("no op")?)?;
     let mut fields = EntryFields {
-        op: op as u8,
+        op: op.code(),
         first: 0,
         second: 0,
         third: 0,

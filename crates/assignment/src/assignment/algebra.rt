@@ -4,7 +4,7 @@
 ghost use Rattle.std.specs.Prelude.{◌≡◌, ℕ, ◌<◌, Bool, true, not, ◌&&◌, ◌||◌, Decides, ◌==◌, nat_le};
 ghost use Rattle.std.specs.Bool.{beq};
 ghost use Rattle.assignment.specs.Knows.{has, known, knows, Build, KnownOutside};
-ghost use Rattle.assignment.specs.Lattice.{contradiction, copied, equate, join, known_outside, meet, no_from, outside, put, same, total, whole, within};
+ghost use Rattle.assignment.specs.Lattice.{contradiction, copied, equate, inconsistent, join, known_outside, meet, no_from, outside, put, same, total, whole, within};
 
 use super::Assignment;
 use crate::mask::{has_bit, high_bits, one_bit, shared};
@@ -36,7 +36,8 @@ impl Assignment {
 
     /// The contradiction in place of any inconsistent assignment.
     pub fn whole(self) -> Assignment
-        ensures { result ≡ whole self }
+        ensures answer { result ≡ whole self }
+        ensures options { (o : ℕ) (v : Bool) → o < 64 → knows result o v ≡ (knows self o v || inconsistent self) }
     {
         if self.is_inconsistent() {
             return Assignment::contradiction();

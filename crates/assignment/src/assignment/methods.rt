@@ -1,6 +1,6 @@
 // Making an assignment, and asking what it knows.
-ghost use Rattle.std.specs.Prelude.{◌≡◌, not, ◌==◌, bit_and};
-ghost use Rattle.assignment.specs.Knows.{value_of};
+ghost use Rattle.std.specs.Prelude.{◌≡◌, Decides};
+ghost use Rattle.assignment.specs.Knows.{value_of, KnownBothWays};
 ghost use Rattle.assignment.specs.Lattice.{inconsistent};
 
 use super::Assignment;
@@ -31,10 +31,10 @@ impl Assignment {
     }
 
     /// Whether some option is known both yes and no.
-    #[tactic(auto, unfolding(crate::specs::Lattice::inconsistent))]
+    #[tactic(auto, using(crate::proofs::FirstBits::both_ways_known), unfolding(crate::specs::Lattice::inconsistent))]
     pub fn is_inconsistent(&self) -> bool
-        ensures masks { result ≡ not (bit_and self.now.yes self.now.no == 0) }
         ensures answer { result ≡ inconsistent self.now }
+        ensures options { Decides result (KnownBothWays self.now) }
     {
         (self.yes & self.no) != 0
     }

@@ -1,8 +1,10 @@
 // Filling a draft, and reading what it holds.
-ghost use Rattle.std.specs.Prelude.{◌≡◌, [], ◌∷◌, ◌++◌, ◌<◌, is_ok, IfOk, OnOk, vec_len, if◌then◌else◌};
+ghost use Rattle.std.specs.Prelude.{◌≡◌, [], ◌∷◌, ◌++◌, ◌<◌, Decides, is_ok, IfOk, OnOk, vec_len, if◌then◌else◌};
 ghost use Rattle.refusals.specs.Checks.{judged};
+ghost use Rattle.entries.specs.Accepts.{Accepts, StandFor};
 ghost use Rattle.entries.specs.Fields.{entry_of};
 ghost use Rattle.entries.specs.Drafts.{draft_checks};
+ghost use Rattle.entries.specs.declared.entry.Entry.{Entry};
 
 use super::Draft;
 use crate::entry::Entry;
@@ -27,9 +29,12 @@ impl Draft {
         }
     }
 
-    /// Adds the entry that the fields stand for, or refuses it and stays as it was.
+    /// Adds the entry that the fields stand for, or refuses it and stays as it was. It is added exactly if there is room for
+    /// it, the draft was told 1 to 64 options, and the entry fits these and the rules below.
     pub fn add(&mut self, fields: EntryFields) -> Result<(), Refusal>
         ensures answer { result ≡ judged (draft_checks self.old fields) tt }
+        ensures accepted { Decides (is_ok result) (Accepts self.old fields) }
+        ensures added { OnOk result ((entry : Entry) → StandFor self.old fields entry → self.new.entries.items ≡ self.old.entries.items ++ entry ∷ []) }
         ensures entries { self.new.entries.items ≡ (if is_ok result then self.old.entries.items ++ entry_of fields ∷ [] else self.old.entries.items) }
         ensures options { self.new.options ≡ self.old.options }
         ensures below { self.new.below ≡ self.old.below }

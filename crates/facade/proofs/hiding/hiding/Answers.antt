@@ -4,9 +4,9 @@ use Rattle.std.proofs.lemmas.Result.{err_from_is_err_and}
 use Rattle.entries.specs.Drafts.{draft_checks}
 use Rattle.entries.specs.declared.draft.Draft.{Draft}
 use Rattle.entries.specs.declared.entry.Entry.TheVariants.{Projection}
+use Rattle.entries.specs.Accepts.{fields_for}
 use Rattle.entries.specs.Fields.{entry_checks}
 use Rattle.refusals.proofs.Judged.{judged_passes}
-use Rattle.ruleformat.specs.Encoding.{fields_for}
 use Rattle.facade.specs.Outcomes.{hides, passes, told}
 use Rattle.facade.proofs.Passing.{passed, passes_err, passes_ok}
 use Rattle.facade.proofs.hiding.hiding.Goals as goal

@@ -15,7 +15,7 @@ returns-then-is_last g c =
     let l = lawful_rule (g.R.RuleSet.lawful c.args.rules.now) c.args.rule in
     let reply = replied c.args.rule c.loop-reply.current c.loop-reply.invariant.same c.propagate-reply.ensures.answer in
     let last = closure_last _ l c.loop-reply.current c.propagate-reply.result reply c.if-is_last.ensures in
-    let all = closed _ l c.args.known c.whole.result (c.whole.ensures ∙ last ∙ c.loop-reply.invariant.closed) in
+    let all = closed _ l c.args.known c.whole.result (c.whole.ensures.answer ∙ last ∙ c.loop-reply.invariant.closed) in
     record {
       answer = all.answer;
       least = all.least;

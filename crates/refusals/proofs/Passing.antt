@@ -1,21 +1,20 @@
 -- Checks that all pass: not one of them holds, which is when what they judge is accepted.
-use Rattle.std.proofs.Common.{◌≡◌, true, false, cond, List, [], ◌∷◌, ◌++◌, Ok, Err, sym, refl}
+use Rattle.std.proofs.Common.{◌≡◌, true, false, cond, is_ok, List, [], ◌∷◌, ◌++◌, Ok, Err, sym, refl}
+use Rattle.std.proofs.lemmas.Bool.{both_ways}
 use Rattle.refusals.specs.Checks.{Check, judged, within}
 use Rattle.refusals.proofs.Judged.{ok_is_no_err}
-use Rattle.ruleformat.specs.WellFormed.{Each}
-use Rattle.ruleformat.proofs.Each.{each_append, each_parts}
-
-abbrev Passes : {F : Type 0} → Check F → Type 0
-Passes c = c.holds ≡ false
 
 abbrev pub Passing : {F : Type 0} → List (Check F) → Type 0
-Passing cs = Each Passes cs
+Passing [] = Unit {0}
+Passing (c ∷ cs) = (c.holds ≡ false) × Passing cs
 
 pub passing_append : {F : Type 0} (cs ds : List (Check F)) → Passing cs → Passing ds → Passing (cs ++ ds)
-passing_append cs ds h k = each_append Passes cs ds h k
+passing_append [] ds h k = k
+passing_append (c ∷ cs) ds h k = (h.0, passing_append cs ds h.1 k)
 
 pub passing_parts : {F : Type 0} (cs ds : List (Check F)) → Passing (cs ++ ds) → Passing cs × Passing ds
-passing_parts cs ds h = each_parts Passes cs ds h
+passing_parts [] ds h = (tt, h)
+passing_parts (c ∷ cs) ds h = ((h.0, (passing_parts cs ds h.1).0), (passing_parts cs ds h.1).1)
 
 -- faults that are put into wider ones make no difference
 pub passing_within : {F G : Type 0} (w : F → G) (cs : List (Check F)) → Passing cs → Passing (within w cs)
@@ -35,3 +34,9 @@ accepted_passes [] a x h = tt
 accepted_passes (c ∷ cs) a x h =
     elim c.holds as (λ t. cond t (Err c.fault) (judged cs a) ≡ Ok x → (t ≡ false) × Passing cs)
     [ true ↦ λ p. absurd (ok_is_no_err (sym p)) | false ↦ λ p. (refl, accepted_passes cs a x p) ] h
+
+pub ok_passes : {A F : Type 0} (cs : List (Check F)) (a : A) → is_ok (judged cs a) ≡ true → Passing cs
+ok_passes [] a h = tt
+ok_passes (c ∷ cs) a h =
+    elim c.holds as (λ t. is_ok (cond t (Err c.fault) (judged cs a)) ≡ true → (t ≡ false) × Passing cs)
+    [ true ↦ λ p. absurd (both_ways false refl p) | false ↦ λ p. (refl, ok_passes cs a p) ] h
