@@ -15,7 +15,7 @@ use Rattle.ruleformat.proofs.EncodedTable.{table_bytes, table_passes, table_read
 use Rattle.ruleformat.proofs.FitClauses.{sheet_fits}
 use Rattle.ruleformat.proofs.FitFolder.{folder_fits}
 use Rattle.ruleformat.proofs.FitTable.{table_fits}
-use Rattle.ruleformat.proofs.Passing.{accepted_passes, Passing, passing_accepts}
+use Rattle.refusals.proofs.Passing.{accepted_passes, Passing, passing_accepts}
 
 module _ {X F : Type 0} (checks : List ℕ → List (Check F)) (read : List ℕ → X) (Fits : X → Type 0) (encoding : X → List ℕ) where
   body_encoded : ((body : List ℕ) → Each Byte body → Passing (checks body) → Fits (read body) × (encoding (read body) ≡ body)) → BodyIsEncoded checks read Fits encoding
