@@ -23,7 +23,8 @@ pub record EntryRules (m : Meaning) (es : List Entry) (rules : Meaning) : Type 0
 abbrev pub FolderReplies : Type 0
 FolderReplies = (m : Meaning) (es : List Entry) → EntryRules m es (folder es m)
 
--- a stack allows exactly the builds that the table of entries makes, folder by folder, of those allowed below
+-- with at most 32 entries in each folder, a stack allows exactly the builds that the table of entries makes, folder by
+-- folder, of those allowed below
 abbrev pub StackAllows : Type 0
 StackAllows =
     (m : Meaning) → Lawful m → (fs : List (List Entry)) → Small fs → (k : ℕ) (b : Assignment) → Total b → (Allows (stack fs m) k b ↔ stack_allows fs (Allows m) k b)

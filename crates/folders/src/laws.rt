@@ -2,7 +2,8 @@
 ghost use Rattle.folders.specs.Statements.{FolderReplies, SameValues, StackAllows, StackLawful};
 
 /// Over any set of rules that keeps the promises, folders one over the other keep them; each entry gives the reply of the
-/// table of entries; and a stack allows exactly the builds that the table makes of those allowed below.
+/// table of entries; and a stack of folders with at most 32 entries each allows exactly the builds that the table makes of
+/// those allowed below.
 pub fn stack_laws()
     ensures lawful { StackLawful }
     ensures replies { FolderReplies }

@@ -16,6 +16,6 @@ fills f (o ∷ os) c = fills f os (put o true c) || fills f os (put o false c)
 abbrev pub FillsBuilds : Type 0
 FillsBuilds = (f : Rule) (os : List ℕ) (c : Assignment) → (fills f os c ≡ true → (b : Assignment) × Fits f c b) × (Below os → Covers os c → (b : Assignment) → Fits f c b → fills f os c ≡ true)
 
--- the search tree finds a build where some filling is one
+-- with listed options below 64, among them every unknown one, the search tree finds a build exactly if some filling is one
 abbrev pub SearchFills : Type 0
 SearchFills = (f : Rule) → LawfulRule f → (os : List ℕ) → Below os → (c : Assignment) → Covers os c → finds (tree f os (closure f c)) ≡ fills f os c

@@ -8,9 +8,9 @@ use crate::closing::closure;
 use crate::rules::RuleSet;
 use assignment::Assignment;
 
-/// Whether the search tree below what is known has a leaf: options are chosen in the order of the list, yes before no.
-/// Where each option of the list is below 64, and the list has every option of which nothing is known, this says
-/// whether some build that refines what is known is allowed by the rule.
+/// Whether the search tree at the closure of what is known has a leaf: options are chosen in the order of the list, yes
+/// before no. Where each option of the list is below 64, and the list has every option of which nothing is known, this
+/// says whether some build that refines what is known is allowed by the rule.
 pub fn finds_build<R: RuleSet>(rules: &mut R, rule: u32, options: &[u8], known: Assignment) -> bool
     ensures answer { result ≡ finds (tree ((R.RuleSet.meaning rules.old).reply rule) options.now (closed ((R.RuleSet.meaning rules.old).reply rule) known)) }
     ensures fills { Below options.now → Covers options.now known → result ≡ fillings ((R.RuleSet.meaning rules.old).reply rule) options.now known }
@@ -48,8 +48,9 @@ fn first_unknown(options: &[u8], settled: Assignment) -> Option<usize>
         .position(|&option| !settled.is_known(u32::from(option)))
 }
 
-/// The laws of the search tree: how it branches, that it lists just the builds that the rule allows, in order, and that
-/// it finds one where some filling of the listed options is one.
+/// The laws of the search tree: how it branches; and where each listed option is below 64 and the list has every unknown
+/// option, that it lists just the builds that refine what is known and that the rule allows, in order, and that it finds
+/// one where some filling of the listed options is one.
 pub fn tree_laws()
     ensures branches { TreeLaw }
     ensures lists { TreeLists }
