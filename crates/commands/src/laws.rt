@@ -14,8 +14,9 @@ pub fn command_laws()
     ensures long { LongRefused }
 {}
 
-/// However the bytes are cut into pieces: fed one after the other, they get the verdicts on their lines, in order. In any
-/// splitter some bytes are pending. The lines of bytes are those that were written into them, each with its end.
+/// However the bytes are cut into pieces: fed one after the other, they get the verdicts on their lines, in order. Of every
+/// splitter there are bytes, none at all perhaps, that could be pending. The lines of bytes are those that were written
+/// into them, each with its end.
 pub fn splitting_laws()
     ensures splits { Splits }
     ensures some { SomePending }
