@@ -6,7 +6,7 @@ use Rattle.std.proofs.lemmas.List.{append-nil, append_assoc, length-take-le}
 use Rattle.commands.proofs.LineLaws.{first_line, only_line}
 use Rattle.commands.specs.Lines.{Fed, feed, last_verdict, lines, NoEnd, Verdict}
 use Rattle.commands.specs.Parsing.{parsed}
-use Rattle.commands.specs.Splitting.{ends, finished, Pending, Runs, SomePending, Splits, used_up, whole}
+use Rattle.commands.specs.Splitting.{ends, finished, Pending, FedAll, CouldBePending, Splits, used_up, whole}
 use Rattle.commands.specs.declared.splitter.Splitter.{Splitter}
 
 no_end_more : (bytes : List ℕ) (b : ℕ) → NoEnd bytes → (b == 10) ≡ false → NoEnd (bytes ++ (b ∷ []))
@@ -38,7 +38,7 @@ parted bytes (b ∷ bs) rest n = go (b == 10) refl (parted (bytes ++ (b ∷ []))
     go false e more =
         subst (λ xs. PartedBy xs rest (feed (bytes ++ (b ∷ [])) bs)) (append_assoc bytes (b ∷ []) (bs ++ rest)) (more (no_end_more bytes b n e))
 
-pub verdicts_of_lines : {s : Splitter} {pieces : List (List ℕ)} {verdicts : List Verdict} → Runs s pieces verdicts → (bytes : List ℕ) → NoEnd bytes → Pending s bytes → verdicts ≡ map parsed (lines (bytes ++ whole pieces))
+pub verdicts_of_lines : {s : Splitter} {pieces : List (List ℕ)} {verdicts : List Verdict} → FedAll s pieces verdicts → (bytes : List ℕ) → NoEnd bytes → Pending s bytes → verdicts ≡ map parsed (lines (bytes ++ whole pieces))
 verdicts_of_lines (finished f) bytes n p =
     ap option_to_list (f bytes p).0 ∙ last_line bytes n ∙ ap (λ xs. map parsed (lines xs)) (sym (append-nil bytes))
 verdicts_of_lines (used_up {piece = piece} {left = left} {pieces = pieces} f more) bytes n p =
@@ -58,8 +58,8 @@ verdicts_of_lines (ends {t = t} {piece = piece} {left = left} {pieces = pieces} 
 pub splits : Splits
 splits s p pieces verdicts runs = verdicts_of_lines runs [] tt p
 
-pub some_pending : SomePending
-some_pending s = go (cases_lt s.count 22)
+pub could_be_pending : CouldBePending
+could_be_pending s = go (cases_lt s.count 22)
   where
     go : (s.count < 22) ⊎ (22 ≤ s.count) → (bytes : List ℕ) × Pending s bytes
     go (inl h) = (

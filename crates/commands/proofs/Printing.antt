@@ -9,7 +9,7 @@ use Rattle.std.proofs.lemmas.Slice.Eq.{bytes_eq-Decides}
 use Rattle.calls.specs.declared.call.Call.{Call}
 use Rattle.calls.specs.declared.call.Call.TheVariants.{Settle, Back, Again, Look, Next}
 use Rattle.calls.specs.declared.refusal.CallRefusal.TheVariants.{NoCommand}
-use Rattle.commands.specs.Commands.{command_of, Fits, value_word}
+use Rattle.commands.specs.Commands.{command_of, Of32Bits, value_word}
 use Rattle.commands.specs.Laws.{LongRefused, OthersRefused, ReadIfPrinted, ShortCommands, UniqueCommands}
 use Rattle.commands.specs.Numerals.{number_in}
 use Rattle.commands.specs.Parsing.{accepted, begins_with, ends_with, next_in, parsed, settle_in, settlement, valued, word_in}
@@ -59,7 +59,7 @@ no_yes ds = go (ends_with (codes " yes") line) refl
 
 module _ (line : List ℕ) (call : Call) where
   abbrev Printed : Type 0
-  Printed = Fits call × (line ≡ command_of call)
+  Printed = Of32Bits call × (line ≡ command_of call)
 
   cond_some : (b : Bool) (o : Option Call) → cond b o None ≡ Some call → (b ≡ true) × (o ≡ Some call)
   cond_some true o h = (refl, h)
@@ -69,15 +69,15 @@ module _ (line : List ℕ) (call : Call) where
   word_sound h = back (bytes_eq line (codes "back")) refl h
     where
       look : (b : Bool) → bytes_eq line (codes "look") ≡ b → cond b (Some Look) None ≡ Some call → Printed
-      look true e h = let at : Look ≡ call = cc in subst (λ d. Fits d × (line ≡ command_of d)) at (tt, (bytes_eq-Decides line (codes "look")).0 e)
+      look true e h = let at : Look ≡ call = cc in subst (λ d. Of32Bits d × (line ≡ command_of d)) at (tt, (bytes_eq-Decides line (codes "look")).0 e)
       look false e h = cc
 
       again : (b : Bool) → bytes_eq line (codes "again") ≡ b → cond b (Some Again) (cond (bytes_eq line (codes "look")) (Some Look) None) ≡ Some call → Printed
-      again true e h = let at : Again ≡ call = cc in subst (λ d. Fits d × (line ≡ command_of d)) at (tt, (bytes_eq-Decides line (codes "again")).0 e)
+      again true e h = let at : Again ≡ call = cc in subst (λ d. Of32Bits d × (line ≡ command_of d)) at (tt, (bytes_eq-Decides line (codes "again")).0 e)
       again false e h = look (bytes_eq line (codes "look")) refl h
 
       back : (b : Bool) → bytes_eq line (codes "back") ≡ b → cond b (Some Back) (cond (bytes_eq line (codes "again")) (Some Again) (cond (bytes_eq line (codes "look")) (Some Look) None)) ≡ Some call → Printed
-      back true e h = let at : Back ≡ call = cc in subst (λ d. Fits d × (line ≡ command_of d)) at (tt, (bytes_eq-Decides line (codes "back")).0 e)
+      back true e h = let at : Back ≡ call = cc in subst (λ d. Of32Bits d × (line ≡ command_of d)) at (tt, (bytes_eq-Decides line (codes "back")).0 e)
       back false e h = again (bytes_eq line (codes "again")) refl h
 
   next_sound : next_in line ≡ Some call → Printed
@@ -90,7 +90,7 @@ module _ (line : List ℕ) (call : Call) where
       go (Some n) e h at =
           let printed = numeral_printed (drop 5 line) n e in
           let is : Next n ≡ call = cc in
-          subst (λ d. Fits d × (line ≡ command_of d)) is (printed.0, at ∙ ap (λ xs. codes "next " ++ xs) printed.1)
+          subst (λ d. Of32Bits d × (line ≡ command_of d)) is (printed.0, at ∙ ap (λ xs. codes "next " ++ xs) printed.1)
 
   valued_sound : (settled : List ℕ) (v : Bool) → line ≡ codes "settle " ++ settled → valued settled (value_word v) v ≡ Some call → Printed
   valued_sound settled v at h =
@@ -105,7 +105,7 @@ module _ (line : List ℕ) (call : Call) where
       go (Some n) e h parts =
           let printed = numeral_printed digits n e in
           let is : Settle n v ≡ call = cc in
-          subst (λ d. Fits d × (line ≡ command_of d)) is
+          subst (λ d. Of32Bits d × (line ≡ command_of d)) is
           (printed.0, at ∙ ap (λ xs. codes "settle " ++ xs) (parts ∙ ap (λ xs. xs ++ value_word v) printed.1))
 
   or_some : (o p : Option Call) → option_or o p ≡ Some call → (o ≡ Some call) ⊎ (p ≡ Some call)
@@ -154,7 +154,7 @@ settle_printed n false h =
     ap (λ b. option_or (cond b (option_map (settlement true) (number_in (take (length line - 4) line))) None) (valued line (codes " no") false)) (no_yes (decimal n))
     ∙ valued_here (decimal n) (codes " no") false n (number_printed n h)
 
-pub printed_accepted : (call : Call) → Fits call → parsed (command_of call) ≡ Ok call
+pub printed_accepted : (call : Call) → Of32Bits call → parsed (command_of call) ≡ Ok call
 printed_accepted (Settle n v) h = ap accepted (settle_printed n v h)
 printed_accepted Back h = refl
 printed_accepted Again h = refl

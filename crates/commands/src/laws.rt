@@ -2,7 +2,7 @@
 ghost use Rattle.commands.specs.Laws.{LongRefused, OthersRefused, ReadIfPrinted, ShortCommands, UniqueCommands};
 ghost use Rattle.commands.specs.Lines.{AllWritten, LinesWritten};
 ghost use Rattle.commands.specs.ReplyLaws.{OneLines, ToldApart};
-ghost use Rattle.commands.specs.Splitting.{SomePending, Splits};
+ghost use Rattle.commands.specs.Splitting.{CouldBePending, Splits};
 
 /// A line is read as a call exactly if it is the call's printed form, and any other is refused. A line is the printed
 /// form of one call at most, and no command is longer than 21 bytes.
@@ -19,7 +19,7 @@ pub fn command_laws()
 /// into them, each with its end.
 pub fn splitting_laws()
     ensures splits { Splits }
-    ensures some { SomePending }
+    ensures some { CouldBePending }
     ensures lines { LinesWritten }
     ensures all { AllWritten }
 {}
