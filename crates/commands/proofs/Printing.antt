@@ -1,7 +1,7 @@
 -- A line is accepted exactly if it is the printed form of a call.
 use Rattle.std.proofs.Common.{◌≡◌, ℕ, ◌-◌, ◌^◌, ◌<◌, ◌≤◌, Bool, true, false, cond, ◌⊎◌, inl, inr, List, ◌++◌, length, take, drop, reverse, get_or, Option, None, Some, Ok, Err, codes, arith, refl, sym, ap, subst, ◌∙◌}
 use Rattle.std.specs.Fmt.{decimal}
-use Rattle.std.specs.Option.{option_map, option_or}
+use Rattle.std.specs.Option.{ok_or, option_map, option_or}
 use Rattle.std.specs.Str.{bytes_eq}
 use Rattle.std.proofs.lemmas.Fmt.{length-decimal-le}
 use Rattle.std.proofs.lemmas.List.{drop_at, length-append, reverse-append, take-append-drop, take_at}
@@ -12,7 +12,7 @@ use Rattle.calls.specs.declared.refusal.CallRefusal.TheVariants.{NoCommand}
 use Rattle.commands.specs.Commands.{command_of, Of32Bits, value_word}
 use Rattle.commands.specs.Laws.{LongRefused, OthersRefused, ReadIfPrinted, ShortCommands, UniqueCommands}
 use Rattle.commands.specs.Numerals.{number_in}
-use Rattle.commands.specs.Parsing.{accepted, begins_with, ends_with, next_in, parsed, settle_in, settlement, valued, word_in}
+use Rattle.commands.specs.Parsing.{begins_with, ends_with, next_in, parsed, settle_in, settlement, valued, word_in}
 use Rattle.commands.proofs.Numbers.{number_printed, numeral_printed}
 
 -- parts of a line
@@ -132,7 +132,7 @@ module _ (line : List ℕ) (call : Call) where
       either (inl e) = first (or_some (word_in line) (next_in line) e)
       either (inr e) = settle_sound e
 
-      any : (o : Option Call) → option_or (option_or (word_in line) (next_in line)) (settle_in line) ≡ o → accepted o ≡ Ok call → Printed
+      any : (o : Option Call) → option_or (option_or (word_in line) (next_in line)) (settle_in line) ≡ o → ok_or o NoCommand ≡ Ok call → Printed
       any None e h = cc
       any (Some c) e h =
           let is : Some c ≡ Some call = cc in
@@ -155,12 +155,12 @@ settle_printed n false h =
     ∙ valued_here (decimal n) (codes " no") false n (number_printed n h)
 
 pub printed_accepted : (call : Call) → Of32Bits call → parsed (command_of call) ≡ Ok call
-printed_accepted (Settle n v) h = ap accepted (settle_printed n v h)
+printed_accepted (Settle n v) h = ap (λ o. ok_or o NoCommand) (settle_printed n v h)
 printed_accepted Back h = refl
 printed_accepted Again h = refl
 printed_accepted Look h = refl
 printed_accepted (Next n) h =
-    ap (λ o. accepted (option_or (option_map Next o) (settle_in (codes "next " ++ decimal n)))) (number_printed n h)
+    ap (λ o. ok_or (option_or (option_map Next o) (settle_in (codes "next " ++ decimal n))) NoCommand) (number_printed n h)
 
 -- the laws
 
@@ -188,9 +188,9 @@ read_if_printed line call = (accepted_printed line call, λ h. ap parsed h.1 ∙
 pub others_refused : OthersRefused
 others_refused line none = go (option_or (option_or (word_in line) (next_in line)) (settle_in line)) refl
   where
-    go : (o : Option Call) → option_or (option_or (word_in line) (next_in line)) (settle_in line) ≡ o → accepted o ≡ Err NoCommand
+    go : (o : Option Call) → option_or (option_or (word_in line) (next_in line)) (settle_in line) ≡ o → ok_or o NoCommand ≡ Err NoCommand
     go None e = refl
-    go (Some c) e = let printed = accepted_printed line c (ap accepted e) in absurd (none c printed.0 printed.1)
+    go (Some c) e = let printed = accepted_printed line c (ap (λ o. ok_or o NoCommand) e) in absurd (none c printed.0 printed.1)
 
 pub long_refused : LongRefused
 long_refused line h =

@@ -1,6 +1,6 @@
 -- What a splitter keeps, what a call of it does, and what feeding it piece after piece comes to.
 use Rattle.std.specs.Prelude.{◌≡◌, ℕ, ◌≤◌, min, List, [], ◌∷◌, length, take, map, Option, None, Some}
-use Rattle.std.specs.List.{flat_map}
+use Rattle.std.specs.List.{concat}
 use Rattle.std.specs.Option.{option_to_list}
 use Rattle.commands.specs.Lines.{feed, last_verdict, lines, Verdict}
 use Rattle.commands.specs.Parsing.{parsed}
@@ -33,9 +33,6 @@ pub data FedAll : Splitter → List (List ℕ) → List Verdict → Type 0 where
   used_up : {s t : Splitter} {piece left : List ℕ} {pieces : List (List ℕ)} {verdicts : List Verdict} → NextLine s t piece left None → FedAll t pieces verdicts → FedAll s (piece ∷ pieces) verdicts
   ends : {s t : Splitter} {piece left : List ℕ} {pieces : List (List ℕ)} {verdict : Verdict} {verdicts : List Verdict} → NextLine s t piece left (Some verdict) → FedAll t (left ∷ pieces) verdicts → FedAll s (piece ∷ pieces) (verdict ∷ verdicts)
 
-abbrev pub whole : List (List ℕ) → List ℕ
-whole pieces = flat_map (λ piece. piece) pieces
-
 abbrev pub Splits : Type 0
 Splits =
-    (s : Splitter) → Pending s [] → (pieces : List (List ℕ)) (verdicts : List Verdict) → FedAll s pieces verdicts → verdicts ≡ map parsed (lines (whole pieces))
+    (s : Splitter) → Pending s [] → (pieces : List (List ℕ)) (verdicts : List Verdict) → FedAll s pieces verdicts → verdicts ≡ map parsed (lines (concat pieces))
