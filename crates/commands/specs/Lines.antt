@@ -36,8 +36,8 @@ LinesWritten = (written : List (List ℕ)) (rest : List ℕ) → NoEnds written 
 abbrev pub AllWritten : Type 0
 AllWritten = (bytes : List ℕ) → (written : List (List ℕ)) × (rest : List ℕ) × NoEnds written × NoEnd rest × (bytes ≡ flat_map ended written ++ rest)
 
--- the verdict on the line that ends, what is left of the piece, and what then came of the next line; where no line ends,
--- what came of this one
+-- the verdict on the line that ends, what is left of the piece, and what then came of the next line, or of this one if
+-- it does not end
 pub record Fed : Type 0 where
   pub verdict : Option Verdict
   pub left : List ℕ
