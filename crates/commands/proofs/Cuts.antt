@@ -1,12 +1,13 @@
 -- However bytes are cut into pieces, a splitter gives the verdicts on their lines.
 use Rattle.std.proofs.Common.{◌≡◌, ℕ, ◌<◌, ◌≤◌, Bool, true, false, cond, ◌==◌, ◌⊎◌, inl, inr, List, [], ◌∷◌, ◌++◌, take, map, replicate, Option, None, Some, arith, refl, sym, ap, ap₂, subst, ◌∙◌}
+use Rattle.std.specs.List.{concat}
 use Rattle.std.specs.Option.{option_to_list}
 use Rattle.std.proofs.lemmas.Bool.{cases_lt, eqb-true}
 use Rattle.std.proofs.lemmas.List.{append-nil, append_assoc, length-take-le}
 use Rattle.commands.proofs.LineLaws.{first_line, only_line}
 use Rattle.commands.specs.Lines.{Fed, feed, last_verdict, lines, NoEnd, Verdict}
 use Rattle.commands.specs.Parsing.{parsed}
-use Rattle.commands.specs.Splitting.{ends, finished, Pending, Runs, SomePending, Splits, used_up, whole}
+use Rattle.commands.specs.Splitting.{CouldBePending, ends, FedAll, finished, Pending, Splits, used_up}
 use Rattle.commands.specs.declared.splitter.Splitter.{Splitter}
 
 no_end_more : (bytes : List ℕ) (b : ℕ) → NoEnd bytes → (b == 10) ≡ false → NoEnd (bytes ++ (b ∷ []))
@@ -38,28 +39,28 @@ parted bytes (b ∷ bs) rest n = go (b == 10) refl (parted (bytes ++ (b ∷ []))
     go false e more =
         subst (λ xs. PartedBy xs rest (feed (bytes ++ (b ∷ [])) bs)) (append_assoc bytes (b ∷ []) (bs ++ rest)) (more (no_end_more bytes b n e))
 
-pub verdicts_of_lines : {s : Splitter} {pieces : List (List ℕ)} {verdicts : List Verdict} → Runs s pieces verdicts → (bytes : List ℕ) → NoEnd bytes → Pending s bytes → verdicts ≡ map parsed (lines (bytes ++ whole pieces))
+pub verdicts_of_lines : {s : Splitter} {pieces : List (List ℕ)} {verdicts : List Verdict} → FedAll s pieces verdicts → (bytes : List ℕ) → NoEnd bytes → Pending s bytes → verdicts ≡ map parsed (lines (bytes ++ concat pieces))
 verdicts_of_lines (finished f) bytes n p =
     ap option_to_list (f bytes p).0 ∙ last_line bytes n ∙ ap (λ xs. map parsed (lines xs)) (sym (append-nil bytes))
 verdicts_of_lines (used_up {piece = piece} {left = left} {pieces = pieces} f more) bytes n p =
     let fed = f bytes p in
     let cut =
-    subst (λ v. Parted (bytes ++ (piece ++ whole pieces)) (whole pieces) v (feed bytes piece).left (feed bytes piece).pending) (sym fed.verdict_is)
-    (parted bytes piece (whole pieces) n) in
+    subst (λ v. Parted (bytes ++ (piece ++ concat pieces)) (concat pieces) v (feed bytes piece).left (feed bytes piece).pending) (sym fed.verdict_is)
+    (parted bytes piece (concat pieces) n) in
     verdicts_of_lines more (feed bytes piece).pending cut.0 fed.pending ∙ ap (map parsed) (sym cut.1)
 verdicts_of_lines (ends {t = t} {piece = piece} {left = left} {pieces = pieces} {verdict = verdict} {verdicts = verdicts} f more) bytes n p =
     let fed = f bytes p in
     let cut =
-    subst (λ v. Parted (bytes ++ (piece ++ whole pieces)) (whole pieces) v (feed bytes piece).left (feed bytes piece).pending) (sym fed.verdict_is)
-    (parted bytes piece (whole pieces) n) in
+    subst (λ v. Parted (bytes ++ (piece ++ concat pieces)) (concat pieces) v (feed bytes piece).left (feed bytes piece).pending) (sym fed.verdict_is)
+    (parted bytes piece (concat pieces) n) in
     let behind = verdicts_of_lines more [] tt (subst (Pending t) cut.2 fed.pending) in
-    ap₂ (λ v vs. v ∷ vs) cut.1 (behind ∙ ap (λ xs. map parsed (lines (xs ++ whole pieces))) fed.left_is) ∙ ap (map parsed) (sym cut.3)
+    ap₂ (λ v vs. v ∷ vs) cut.1 (behind ∙ ap (λ xs. map parsed (lines (xs ++ concat pieces))) fed.left_is) ∙ ap (map parsed) (sym cut.3)
 
 pub splits : Splits
 splits s p pieces verdicts runs = verdicts_of_lines runs [] tt p
 
-pub some_pending : SomePending
-some_pending s = go (cases_lt s.count 22)
+pub could_be_pending : CouldBePending
+could_be_pending s = go (cases_lt s.count 22)
   where
     go : (s.count < 22) ⊎ (22 ≤ s.count) → (bytes : List ℕ) × Pending s bytes
     go (inl h) = (

@@ -1,9 +1,9 @@
 -- The lines of bytes are those that are written into them, each with its end.
 use Rattle.std.proofs.Common.{◌≡◌, ℕ, Bool, true, false, cond, ◌==◌, List, [], ◌∷◌, ◌++◌, refl, ap, ◌∙◌}
-use Rattle.std.specs.List.{flat_map}
+use Rattle.std.specs.List.{flat_map, onto_first}
 use Rattle.std.proofs.lemmas.Bool.{eqb-true}
 use Rattle.std.proofs.lemmas.List.{append_assoc}
-use Rattle.commands.specs.Lines.{AllWritten, line_of_rest, lines, LinesWritten, NoEnd, NoEnds, onto_first}
+use Rattle.commands.specs.Lines.{AllWritten, line_of_rest, lines, LinesWritten, NoEnd, NoEnds}
 use Rattle.commands.specs.Replies.{ended}
 
 -- up to the first end

@@ -1,7 +1,7 @@
 -- A line is accepted exactly if it is the printed form of a call.
 use Rattle.std.proofs.Common.{◌≡◌, ℕ, ◌-◌, ◌^◌, ◌<◌, ◌≤◌, Bool, true, false, cond, ◌⊎◌, inl, inr, List, ◌++◌, length, take, drop, reverse, get_or, Option, None, Some, Ok, Err, codes, arith, refl, sym, ap, subst, ◌∙◌}
 use Rattle.std.specs.Fmt.{decimal}
-use Rattle.std.specs.Option.{option_map, option_or}
+use Rattle.std.specs.Option.{ok_or, option_map, option_or}
 use Rattle.std.specs.Str.{bytes_eq}
 use Rattle.std.proofs.lemmas.Fmt.{length-decimal-le}
 use Rattle.std.proofs.lemmas.List.{drop_at, length-append, reverse-append, take-append-drop, take_at}
@@ -9,10 +9,10 @@ use Rattle.std.proofs.lemmas.Slice.Eq.{bytes_eq-Decides}
 use Rattle.calls.specs.declared.call.Call.{Call}
 use Rattle.calls.specs.declared.call.Call.TheVariants.{Settle, Back, Again, Look, Next}
 use Rattle.calls.specs.declared.refusal.CallRefusal.TheVariants.{NoCommand}
-use Rattle.commands.specs.Commands.{command_of, Fits, value_word}
+use Rattle.commands.specs.Commands.{command_of, Of32Bits, value_word}
 use Rattle.commands.specs.Laws.{LongRefused, OthersRefused, ReadIfPrinted, ShortCommands, UniqueCommands}
 use Rattle.commands.specs.Numerals.{number_in}
-use Rattle.commands.specs.Parsing.{accepted, begins_with, ends_with, next_in, parsed, settle_in, settlement, valued, word_in}
+use Rattle.commands.specs.Parsing.{begins_with, ends_with, next_in, parsed, settle_in, settlement, valued, word_in}
 use Rattle.commands.proofs.Numbers.{number_printed, numeral_printed}
 
 -- parts of a line
@@ -59,7 +59,7 @@ no_yes ds = go (ends_with (codes " yes") line) refl
 
 module _ (line : List ℕ) (call : Call) where
   abbrev Printed : Type 0
-  Printed = Fits call × (line ≡ command_of call)
+  Printed = Of32Bits call × (line ≡ command_of call)
 
   cond_some : (b : Bool) (o : Option Call) → cond b o None ≡ Some call → (b ≡ true) × (o ≡ Some call)
   cond_some true o h = (refl, h)
@@ -69,15 +69,15 @@ module _ (line : List ℕ) (call : Call) where
   word_sound h = back (bytes_eq line (codes "back")) refl h
     where
       look : (b : Bool) → bytes_eq line (codes "look") ≡ b → cond b (Some Look) None ≡ Some call → Printed
-      look true e h = let at : Look ≡ call = cc in subst (λ d. Fits d × (line ≡ command_of d)) at (tt, (bytes_eq-Decides line (codes "look")).0 e)
+      look true e h = let at : Look ≡ call = cc in subst (λ d. Of32Bits d × (line ≡ command_of d)) at (tt, (bytes_eq-Decides line (codes "look")).0 e)
       look false e h = cc
 
       again : (b : Bool) → bytes_eq line (codes "again") ≡ b → cond b (Some Again) (cond (bytes_eq line (codes "look")) (Some Look) None) ≡ Some call → Printed
-      again true e h = let at : Again ≡ call = cc in subst (λ d. Fits d × (line ≡ command_of d)) at (tt, (bytes_eq-Decides line (codes "again")).0 e)
+      again true e h = let at : Again ≡ call = cc in subst (λ d. Of32Bits d × (line ≡ command_of d)) at (tt, (bytes_eq-Decides line (codes "again")).0 e)
       again false e h = look (bytes_eq line (codes "look")) refl h
 
       back : (b : Bool) → bytes_eq line (codes "back") ≡ b → cond b (Some Back) (cond (bytes_eq line (codes "again")) (Some Again) (cond (bytes_eq line (codes "look")) (Some Look) None)) ≡ Some call → Printed
-      back true e h = let at : Back ≡ call = cc in subst (λ d. Fits d × (line ≡ command_of d)) at (tt, (bytes_eq-Decides line (codes "back")).0 e)
+      back true e h = let at : Back ≡ call = cc in subst (λ d. Of32Bits d × (line ≡ command_of d)) at (tt, (bytes_eq-Decides line (codes "back")).0 e)
       back false e h = again (bytes_eq line (codes "again")) refl h
 
   next_sound : next_in line ≡ Some call → Printed
@@ -90,7 +90,7 @@ module _ (line : List ℕ) (call : Call) where
       go (Some n) e h at =
           let printed = numeral_printed (drop 5 line) n e in
           let is : Next n ≡ call = cc in
-          subst (λ d. Fits d × (line ≡ command_of d)) is (printed.0, at ∙ ap (λ xs. codes "next " ++ xs) printed.1)
+          subst (λ d. Of32Bits d × (line ≡ command_of d)) is (printed.0, at ∙ ap (λ xs. codes "next " ++ xs) printed.1)
 
   valued_sound : (settled : List ℕ) (v : Bool) → line ≡ codes "settle " ++ settled → valued settled (value_word v) v ≡ Some call → Printed
   valued_sound settled v at h =
@@ -105,7 +105,7 @@ module _ (line : List ℕ) (call : Call) where
       go (Some n) e h parts =
           let printed = numeral_printed digits n e in
           let is : Settle n v ≡ call = cc in
-          subst (λ d. Fits d × (line ≡ command_of d)) is
+          subst (λ d. Of32Bits d × (line ≡ command_of d)) is
           (printed.0, at ∙ ap (λ xs. codes "settle " ++ xs) (parts ∙ ap (λ xs. xs ++ value_word v) printed.1))
 
   or_some : (o p : Option Call) → option_or o p ≡ Some call → (o ≡ Some call) ⊎ (p ≡ Some call)
@@ -132,7 +132,7 @@ module _ (line : List ℕ) (call : Call) where
       either (inl e) = first (or_some (word_in line) (next_in line) e)
       either (inr e) = settle_sound e
 
-      any : (o : Option Call) → option_or (option_or (word_in line) (next_in line)) (settle_in line) ≡ o → accepted o ≡ Ok call → Printed
+      any : (o : Option Call) → option_or (option_or (word_in line) (next_in line)) (settle_in line) ≡ o → ok_or o NoCommand ≡ Ok call → Printed
       any None e h = cc
       any (Some c) e h =
           let is : Some c ≡ Some call = cc in
@@ -154,13 +154,13 @@ settle_printed n false h =
     ap (λ b. option_or (cond b (option_map (settlement true) (number_in (take (length line - 4) line))) None) (valued line (codes " no") false)) (no_yes (decimal n))
     ∙ valued_here (decimal n) (codes " no") false n (number_printed n h)
 
-pub printed_accepted : (call : Call) → Fits call → parsed (command_of call) ≡ Ok call
-printed_accepted (Settle n v) h = ap accepted (settle_printed n v h)
+pub printed_accepted : (call : Call) → Of32Bits call → parsed (command_of call) ≡ Ok call
+printed_accepted (Settle n v) h = ap (λ o. ok_or o NoCommand) (settle_printed n v h)
 printed_accepted Back h = refl
 printed_accepted Again h = refl
 printed_accepted Look h = refl
 printed_accepted (Next n) h =
-    ap (λ o. accepted (option_or (option_map Next o) (settle_in (codes "next " ++ decimal n)))) (number_printed n h)
+    ap (λ o. ok_or (option_or (option_map Next o) (settle_in (codes "next " ++ decimal n))) NoCommand) (number_printed n h)
 
 -- the laws
 
@@ -188,9 +188,9 @@ read_if_printed line call = (accepted_printed line call, λ h. ap parsed h.1 ∙
 pub others_refused : OthersRefused
 others_refused line none = go (option_or (option_or (word_in line) (next_in line)) (settle_in line)) refl
   where
-    go : (o : Option Call) → option_or (option_or (word_in line) (next_in line)) (settle_in line) ≡ o → accepted o ≡ Err NoCommand
+    go : (o : Option Call) → option_or (option_or (word_in line) (next_in line)) (settle_in line) ≡ o → ok_or o NoCommand ≡ Err NoCommand
     go None e = refl
-    go (Some c) e = let printed = accepted_printed line c (ap accepted e) in absurd (none c printed.0 printed.1)
+    go (Some c) e = let printed = accepted_printed line c (ap (λ o. ok_or o NoCommand) e) in absurd (none c printed.0 printed.1)
 
 pub long_refused : LongRefused
 long_refused line h =

@@ -15,9 +15,9 @@ command_of Look = codes "look"
 command_of (Next n) = codes "next " ++ decimal n
 
 -- the numbers of a call have 32 bits
-abbrev pub Fits : Call → Type 0
-Fits (Settle o v) = o < 2 ^ 32
-Fits Back = Unit {0}
-Fits Again = Unit {0}
-Fits Look = Unit {0}
-Fits (Next n) = n < 2 ^ 32
+abbrev pub Of32Bits : Call → Type 0
+Of32Bits (Settle o v) = o < 2 ^ 32
+Of32Bits Back = Unit {0}
+Of32Bits Again = Unit {0}
+Of32Bits Look = Unit {0}
+Of32Bits (Next n) = n < 2 ^ 32

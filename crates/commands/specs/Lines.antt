@@ -2,17 +2,12 @@
 use Rattle.std.specs.Prelude.{◌≡◌, ℕ, false, cond, ◌==◌, List, [], ◌∷◌, ◌++◌, Option, None, Some, Result}
 use Rattle.calls.specs.declared.call.Call.{Call}
 use Rattle.calls.specs.declared.refusal.CallRefusal.{CallRefusal}
-use Rattle.std.specs.List.{flat_map}
+use Rattle.std.specs.List.{flat_map, onto_first}
 use Rattle.commands.specs.Replies.{ended}
 use Rattle.commands.specs.Parsing.{parsed}
 
 abbrev pub Verdict : Type 0
 Verdict = Result Call CallRefusal
-
--- a byte before the first line
-abbrev pub onto_first : ℕ → List (List ℕ) → List (List ℕ)
-onto_first b [] = (b ∷ []) ∷ []
-onto_first b (line ∷ more) = (b ∷ line) ∷ more
 
 -- the lines, each without its end; bytes after the last end are a line too
 abbrev pub lines : List ℕ → List (List ℕ)
@@ -41,7 +36,8 @@ LinesWritten = (written : List (List ℕ)) (rest : List ℕ) → NoEnds written 
 abbrev pub AllWritten : Type 0
 AllWritten = (bytes : List ℕ) → (written : List (List ℕ)) × (rest : List ℕ) × NoEnds written × NoEnd rest × (bytes ≡ flat_map ended written ++ rest)
 
--- the verdict on the line that ends, what is left of the piece, and what then came of the next line
+-- the verdict on the line that ends, what is left of the piece, and what then came of the next line, or of this one if
+-- it does not end
 pub record Fed : Type 0 where
   pub verdict : Option Verdict
   pub left : List ℕ

@@ -1,6 +1,6 @@
 -- Reading a command line.
-use Rattle.std.specs.Prelude.{ℕ, ◌-◌, Bool, true, false, cond, List, length, take, drop, codes, Option, None, Some, Result, Ok, Err}
-use Rattle.std.specs.Option.{option_map, option_or}
+use Rattle.std.specs.Prelude.{ℕ, ◌-◌, Bool, true, false, cond, List, length, take, drop, codes, Option, None, Some, Result}
+use Rattle.std.specs.Option.{ok_or, option_map, option_or}
 use Rattle.std.specs.Str.{bytes_eq}
 use Rattle.calls.specs.declared.call.Call.{Call}
 use Rattle.calls.specs.declared.call.Call.TheVariants.{Settle, Back, Again, Look, Next}
@@ -34,9 +34,5 @@ settle_in line =
     cond (begins_with (codes "settle ") line)
     (option_or (valued (drop 7 line) (codes " yes") true) (valued (drop 7 line) (codes " no") false)) None
 
-abbrev pub accepted : Option Call → Result Call CallRefusal
-accepted None = Err NoCommand
-accepted (Some call) = Ok call
-
 abbrev pub parsed : List ℕ → Result Call CallRefusal
-parsed line = accepted (option_or (option_or (word_in line) (next_in line)) (settle_in line))
+parsed line = ok_or (option_or (option_or (word_in line) (next_in line)) (settle_in line)) NoCommand

@@ -1,6 +1,6 @@
 -- What a splitter keeps, what a call of it does, and what feeding it piece after piece comes to.
 use Rattle.std.specs.Prelude.{◌≡◌, ℕ, ◌≤◌, min, List, [], ◌∷◌, length, take, map, Option, None, Some}
-use Rattle.std.specs.List.{flat_map}
+use Rattle.std.specs.List.{concat}
 use Rattle.std.specs.Option.{option_to_list}
 use Rattle.commands.specs.Lines.{feed, last_verdict, lines, Verdict}
 use Rattle.commands.specs.Parsing.{parsed}
@@ -11,8 +11,9 @@ pub record Pending (s : Splitter) (bytes : List ℕ) : Type 0 where
   pub count : s.count ≡ min (length bytes) 22
   pub kept : s.count ≤ 21 → bytes ≡ take s.count s.kept
 
-abbrev pub SomePending : Type 0
-SomePending = (s : Splitter) → (bytes : List ℕ) × Pending s bytes
+-- of every splitter there are bytes, none at all perhaps, that could be pending
+abbrev pub CouldBePending : Type 0
+CouldBePending = (s : Splitter) → (bytes : List ℕ) × Pending s bytes
 
 -- a splitter that is fed a piece becomes another, answers, and leaves the rest of the piece
 pub record Feeds (bytes : List ℕ) (new : Splitter) (piece left : List ℕ) (verdict : Option Verdict) : Type 0 where
@@ -27,14 +28,11 @@ abbrev pub Finishes : Splitter → Splitter → Option Verdict → Type 0
 Finishes old new verdict = (bytes : List ℕ) → Pending old bytes → (verdict ≡ last_verdict bytes) × Pending new []
 
 -- Fed with these pieces, each until it is used up, and then finished, a splitter gives these verdicts.
-pub data Runs : Splitter → List (List ℕ) → List Verdict → Type 0 where
-  finished : {s t : Splitter} {last : Option Verdict} → Finishes s t last → Runs s [] (option_to_list last)
-  used_up : {s t : Splitter} {piece left : List ℕ} {pieces : List (List ℕ)} {verdicts : List Verdict} → NextLine s t piece left None → Runs t pieces verdicts → Runs s (piece ∷ pieces) verdicts
-  ends : {s t : Splitter} {piece left : List ℕ} {pieces : List (List ℕ)} {verdict : Verdict} {verdicts : List Verdict} → NextLine s t piece left (Some verdict) → Runs t (left ∷ pieces) verdicts → Runs s (piece ∷ pieces) (verdict ∷ verdicts)
-
-abbrev pub whole : List (List ℕ) → List ℕ
-whole pieces = flat_map (λ piece. piece) pieces
+pub data FedAll : Splitter → List (List ℕ) → List Verdict → Type 0 where
+  finished : {s t : Splitter} {last : Option Verdict} → Finishes s t last → FedAll s [] (option_to_list last)
+  used_up : {s t : Splitter} {piece left : List ℕ} {pieces : List (List ℕ)} {verdicts : List Verdict} → NextLine s t piece left None → FedAll t pieces verdicts → FedAll s (piece ∷ pieces) verdicts
+  ends : {s t : Splitter} {piece left : List ℕ} {pieces : List (List ℕ)} {verdict : Verdict} {verdicts : List Verdict} → NextLine s t piece left (Some verdict) → FedAll t (left ∷ pieces) verdicts → FedAll s (piece ∷ pieces) (verdict ∷ verdicts)
 
 abbrev pub Splits : Type 0
 Splits =
-    (s : Splitter) → Pending s [] → (pieces : List (List ℕ)) (verdicts : List Verdict) → Runs s pieces verdicts → verdicts ≡ map parsed (lines (whole pieces))
+    (s : Splitter) → Pending s [] → (pieces : List (List ℕ)) (verdicts : List Verdict) → FedAll s pieces verdicts → verdicts ≡ map parsed (lines (concat pieces))

@@ -2,7 +2,7 @@
 ghost use Rattle.std.specs.Prelude.{◌≡◌, ◌↔◌, IfErr, Ok};
 ghost use Rattle.calls.specs.declared.call.Call.{Call as CallValue};
 ghost use Rattle.calls.specs.declared.refusal.CallRefusal.TheVariants.{NoCommand};
-ghost use Rattle.commands.specs.Commands.{command_of, Fits};
+ghost use Rattle.commands.specs.Commands.{command_of, Of32Bits};
 ghost use Rattle.commands.specs.Parsing.{next_in, parsed, settle_in, valued, word_in};
 
 use crate::number::number_in;
@@ -11,7 +11,7 @@ use calls::{Call, CallRefusal};
 /// The call that a line orders; its end is no part of it.
 pub fn parse_command(line: &[u8]) -> Result<Call, CallRefusal>
     ensures answer { result ≡ parsed line.now }
-    ensures printed { (call : CallValue) → (result ≡ Ok call) ↔ (Fits call × (line.now ≡ command_of call)) }
+    ensures printed { (call : CallValue) → (result ≡ Ok call) ↔ (Of32Bits call × (line.now ≡ command_of call)) }
     ensures refused { IfErr result (λ refusal. refusal ≡ NoCommand) }
 {
     let call = word_in(line).or(next_in(line)).or(settle_in(line));

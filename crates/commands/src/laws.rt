@@ -2,7 +2,7 @@
 ghost use Rattle.commands.specs.Laws.{LongRefused, OthersRefused, ReadIfPrinted, ShortCommands, UniqueCommands};
 ghost use Rattle.commands.specs.Lines.{AllWritten, LinesWritten};
 ghost use Rattle.commands.specs.ReplyLaws.{OneLines, ToldApart};
-ghost use Rattle.commands.specs.Splitting.{SomePending, Splits};
+ghost use Rattle.commands.specs.Splitting.{CouldBePending, Splits};
 
 /// A line is read as a call exactly if it is the call's printed form, and any other is refused. A line is the printed
 /// form of one call at most, and no command is longer than 21 bytes.
@@ -14,11 +14,12 @@ pub fn command_laws()
     ensures long { LongRefused }
 {}
 
-/// However the bytes are cut into pieces: fed one after the other, they get the verdicts on their lines, in order. In any
-/// splitter some bytes are pending. The lines of bytes are those that were written into them, each with its end.
+/// However the bytes are cut into pieces: fed one after the other, they get the verdicts on their lines, in order. Of every
+/// splitter there are bytes, none at all perhaps, that could be pending. The lines of bytes are those that were written
+/// into them, each with its end.
 pub fn splitting_laws()
     ensures splits { Splits }
-    ensures some { SomePending }
+    ensures some { CouldBePending }
     ensures lines { LinesWritten }
     ensures all { AllWritten }
 {}

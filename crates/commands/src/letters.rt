@@ -1,7 +1,6 @@
 // One letter for each option.
 ghost use Rattle.std.specs.Prelude.{◌≡◌, map};
 ghost use Rattle.std.specs.List.{range_with_len};
-ghost use Rattle.assignment.specs.Knows.{value_of};
 ghost use Rattle.commands.specs.Replies.{build_letter, known_letter, letter_of};
 
 use assignment::{Assignment, Value, has_bit};

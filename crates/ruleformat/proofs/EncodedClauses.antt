@@ -4,7 +4,8 @@ use lib.ListN.{length-map}
 use Rattle.std.proofs.lemmas.List.{take_at}
 use Rattle.std.proofs.lemmas.Bool.{le-leb, le-ltb, lt-leb, ne_eqb, or_from}
 use Rattle.std.proofs.lemmas.Bool.Decides.{nat_tests}
-use Rattle.ruleformat.specs.Clauses.{any_unfit, clause_checks, clause_of, clause_pieces, clause_size, clauses_checks, clauses_of, option_of, wanted_bytes, wanted_checks, wanted_of}
+use Rattle.std.specs.List.{list_any}
+use Rattle.ruleformat.specs.Clauses.{clause_checks, clause_of, clause_pieces, clause_size, clauses_checks, clauses_of, option_of, unfit_clause, wanted_bytes, wanted_checks, wanted_of}
 use Rattle.ruleformat.specs.Contents.{Wanted}
 use Rattle.ruleformat.specs.Encoding.{encode_clause, encode_sheet, encode_wanted}
 use Rattle.ruleformat.specs.Laws.{Byte}
@@ -75,13 +76,13 @@ module _ (n : ℕ) (few : n ≤ 64) where
       ap (map clause_of) (first_clause ws (encode_sheet cs))
       ∙ ap₂ ◌∷◌ (ap (map wanted_of) (values_are ws (encode_sheet cs)) ∙ values_read 0 ws h.0.rising) (clauses_read cs h.1)
 
-  clauses_fit : (cs : List (List Wanted)) → Each (ClauseFits n) cs → any_unfit (clause_pieces (encode_sheet cs)) ≡ false
+  clauses_fit : (cs : List (List Wanted)) → Each (ClauseFits n) cs → list_any unfit_clause (clause_pieces (encode_sheet cs)) ≡ false
   clauses_fit [] h = refl
   clauses_fit (ws ∷ cs) h =
       let rest = encode_clause ws ++ encode_sheet cs in
       let long : 1 + length ws ≤ length rest = omega (arith, length-append (encode_values ws) (encode_sheet cs), length-map ws encode_wanted) in
-      ap any_unfit (first_clause ws (encode_sheet cs))
-      ∙ or_from (eqb (length ws) 0 || (ltb 16 (length ws) || ltb (length rest) (1 + length ws))) (any_unfit (clause_pieces (encode_sheet cs)))
+      ap (list_any unfit_clause) (first_clause ws (encode_sheet cs))
+      ∙ or_from (eqb (length ws) 0 || (ltb 16 (length ws) || ltb (length rest) (1 + length ws))) (list_any unfit_clause (clause_pieces (encode_sheet cs)))
       (shape_fits (length ws) (length rest) h.0.some_value h.0.few_values long) (clauses_fit cs h.1)
 
   clauses_pass : (place i : ℕ) (cs : List (List Wanted)) → Each (ClauseFits n) cs → Passing (clause_checks n place i (clause_pieces (encode_sheet cs)))
@@ -107,7 +108,7 @@ module _ (n : ℕ) (few : n ≤ 64) where
 
     pub sheet_passes : (place : ℕ) → Passing (clauses_checks n place (encode_sheet cs))
     sheet_passes place = (
-      or_from (any_unfit (clause_pieces (encode_sheet cs))) (ltb 256 (length (clause_pieces (encode_sheet cs)))) (clauses_fit cs fits.each_fits)
+      or_from (list_any unfit_clause (clause_pieces (encode_sheet cs))) (ltb 256 (length (clause_pieces (encode_sheet cs)))) (clauses_fit cs fits.each_fits)
           (le-ltb 256 (length (clause_pieces (encode_sheet cs))) (omega (arith, sheet_count cs, fits.few_clauses))),
       clauses_pass place 0 cs fits.each_fits,
     )

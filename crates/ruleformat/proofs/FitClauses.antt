@@ -3,7 +3,8 @@ use Rattle.std.proofs.Common.{◌≡◌, ℕ, suc, ◌+◌, ◌<◌, ◌≤◌, 
 use Rattle.std.proofs.lemmas.List.{length-drop, length-map, length-take-le}
 use Rattle.std.proofs.lemmas.Bool.{leb-false, ltb-false, or_parts}
 use Rattle.std.proofs.lemmas.Bool.Decides.{nat_tests}
-use Rattle.ruleformat.specs.Clauses.{any_unfit, bit_six, clause_checks, clause_of, clause_pieces, clause_size, clauses_checks, clauses_of, option_of, unfit_clause, wanted_bytes, wanted_checks, wanted_of, wants}
+use Rattle.std.specs.List.{list_any}
+use Rattle.ruleformat.specs.Clauses.{bit_six, clause_checks, clause_of, clause_pieces, clause_size, clauses_checks, clauses_of, option_of, unfit_clause, wanted_bytes, wanted_checks, wanted_of, wants}
 use Rattle.ruleformat.specs.Encoding.{encode_clause, encode_sheet, encode_wanted}
 use Rattle.ruleformat.specs.Laws.{Byte}
 use Rattle.ruleformat.specs.WellFormed.{ClauseFits, ClausesFit, Each, Rising, option}
@@ -50,10 +51,10 @@ module _ (n place i : ℕ) (rest : List ℕ) (bytes : Each Byte rest) (fit : unf
       ap (λ j. j ∷ map encode_wanted (clause_of rest)) count ∙ ap (λ xs. wants rest ∷ xs) values.1 ∙ clause_front rest (omega (arith, sizes.2)) in
       (record { some_value = omega (arith, count, sizes.0); few_values = omega (arith, count, sizes.1); rising = values.0 }, (omega arith, sizes.2, e))
 
-clauses_kept : (n place i : ℕ) (rests : List (List ℕ)) → Each (Each Byte) rests → any_unfit rests ≡ false → Passing (clause_checks n place i rests) → Each (ClauseFits n) (map clause_of rests) × Each (Kept clause_size clause_of encode_clause) rests
+clauses_kept : (n place i : ℕ) (rests : List (List ℕ)) → Each (Each Byte) rests → list_any unfit_clause rests ≡ false → Passing (clause_checks n place i rests) → Each (ClauseFits n) (map clause_of rests) × Each (Kept clause_size clause_of encode_clause) rests
 clauses_kept n place i [] bytes fit h = (tt, tt)
 clauses_kept n place i (r ∷ rs) bytes fit h =
-    let f = or_parts (unfit_clause r) (any_unfit rs) fit in
+    let f = or_parts (unfit_clause r) (list_any unfit_clause rs) fit in
     let p = passing_parts (wanted_checks n place i 0 (wanted_bytes r)) (clause_checks n place (i + 1) rs) h in
     let one = clause_kept n place i r bytes.0 f.0 p.0 in
     let more = clauses_kept n place (i + 1) rs bytes.1 f.1 p.1 in
@@ -61,7 +62,7 @@ clauses_kept n place i (r ∷ rs) bytes fit h =
 
 pub sheet_fits : (n place : ℕ) (body : List ℕ) → Each Byte body → Passing (clauses_checks n place body) → ClausesFit n (clauses_of body) × (encode_sheet (clauses_of body) ≡ body)
 sheet_fits n place body bytes h =
-    let f = or_parts (any_unfit (clause_pieces body)) (ltb 256 (length (clause_pieces body))) h.0 in
+    let f = or_parts (list_any unfit_clause (clause_pieces body)) (ltb 256 (length (clause_pieces body))) h.0 in
     let r = clauses_kept n place 0 (clause_pieces body) (pieces_keep Byte clause_size 0 body bytes) f.0 h.1 in
     let l = ltb-false 256 (length (clause_pieces body)) f.1 in (
       record { few_clauses = omega (arith, length-map (clause_pieces body) clause_of); each_fits = r.0 },

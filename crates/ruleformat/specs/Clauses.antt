@@ -1,5 +1,6 @@
 -- A clause sheet's record: for each clause the number of its wanted values, then a byte for each.
-use Rattle.std.specs.Prelude.{ℕ, ◌+◌, ◌/◌, ◌%◌, Bool, false, ◌||◌, List, [], ◌∷◌, ◌++◌, map, length, take, drop, ◌==◌, nat_le, nat_lt, slice_index}
+use Rattle.std.specs.Prelude.{ℕ, ◌+◌, ◌/◌, ◌%◌, Bool, ◌||◌, List, [], ◌∷◌, ◌++◌, map, length, take, drop, ◌==◌, nat_le, nat_lt, slice_index}
+use Rattle.std.specs.List.{list_any}
 use Rattle.refusals.specs.Checks.{Check, when}
 use Rattle.refusals.specs.declared.fault.SheetFault.{SheetFault}
 use Rattle.refusals.specs.declared.fault.SheetFault.TheVariants.{Record, Item}
@@ -41,13 +42,9 @@ clauses_of body = map clause_of (clause_pieces body)
 abbrev pub unfit_clause : List ℕ → Bool
 unfit_clause rest = wants rest == 0 || (nat_lt 16 (wants rest) || nat_lt (length rest) (clause_size rest))
 
-abbrev pub any_unfit : List (List ℕ) → Bool
-any_unfit [] = false
-any_unfit (rest ∷ rests) = unfit_clause rest || any_unfit rests
-
 -- a clause is unfit, or there are more than 256
 abbrev pub unfit_clauses : List ℕ → Bool
-unfit_clauses body = any_unfit (clause_pieces body) || nat_lt 256 (length (clause_pieces body))
+unfit_clauses body = list_any unfit_clause (clause_pieces body) || nat_lt 256 (length (clause_pieces body))
 
 -- the wanted values of clause i; the least option that may come next is `low`
 abbrev pub wanted_checks : (n place i low : ℕ) → List ℕ → List (Check SheetFault)

@@ -1,7 +1,8 @@
 -- A fit clause is passed over whole.
 use Rattle.std.proofs.Common.{◌≡◌, ◌+◌, ◌<◌, List, ℕ, length, sym, ap, ◌∙◌, subst, arith}
 use Rattle.std.proofs.lemmas.Bool.{eqb-false}
-use Rattle.ruleformat.specs.Clauses.{any_unfit, clause_pieces, clause_size}
+use Rattle.std.specs.List.{list_any}
+use Rattle.ruleformat.specs.Clauses.{clause_pieces, clause_size, unfit_clause}
 use Rattle.ruleformat.proofs.Pieces.{pieces_more}
 use Rattle.sheets.proofs.clauses.check_shape.Goals as goal
 
@@ -13,7 +14,7 @@ loop-preserved c =
     let h = c.in-Some.ensures in
     let Kept : List ℕ → Type 0 =
     λ ys.
-    (any_unfit (clause_pieces ys) ≡ any_unfit (clause_pieces c.args.body.bytes.now))
+    (list_any unfit_clause (clause_pieces ys) ≡ list_any unfit_clause (clause_pieces c.args.body.bytes.now))
     × ((c.loop.counter + 1) + length (clause_pieces ys) ≡ length (clause_pieces c.args.body.bytes.now)) in
     subst Kept (sym h.2)
-    (simp h.0 at (sym (ap any_unfit more)) ∙ c.loop.invariant.0, omega (arith, ap length more))
+    (simp h.0 at (sym (ap (list_any unfit_clause) more)) ∙ c.loop.invariant.0, omega (arith, ap length more))
