@@ -30,14 +30,14 @@ code_of (Err Refused) = 1
 code_of (Err NoMemory) = 2
 
 -- What answering comes to, and the masks that it leaves: all questions are answered where what it was given is good, and
--- else none; nor is any where there is no memory.
-abbrev pub Answered : (good : Bool) → Rule → (before : List ℕ) → Result (Unit {0}) Failure → (after : List ℕ) → Type 0
-Answered good f before result after =
+-- else none; nor is any where there is no memory, which is wanted only once the body was read.
+abbrev pub Answered : (read good : Bool) → Rule → (before : List ℕ) → Result (Unit {0}) Failure → (after : List ℕ) → Type 0
+Answered read good f before result after =
     MatchResult result (λ done. (good ≡ true) × (after ≡ answered f before))
-    (λ failure. (failure ≡ Refused → good ≡ false) × (after ≡ before))
+    (λ failure. (failure ≡ Refused → good ≡ false) × (failure ≡ NoMemory → read ≡ true) × (after ≡ before))
 
 -- the same with the number that the call returns
-abbrev pub Outcome : (good : Bool) → Rule → (before : List ℕ) → (returned : ℕ) → (after : List ℕ) → Type 0
-Outcome good f before returned after =
+abbrev pub Outcome : (read good : Bool) → Rule → (before : List ℕ) → (returned : ℕ) → (after : List ℕ) → Type 0
+Outcome read good f before returned after =
     ((returned ≡ 0) × (good ≡ true) × (after ≡ answered f before))
-    ⊎ (((returned ≡ 1) × (good ≡ false) × (after ≡ before)) ⊎ ((returned ≡ 2) × (after ≡ before)))
+    ⊎ (((returned ≡ 1) × (good ≡ false) × (after ≡ before)) ⊎ ((returned ≡ 2) × (read ≡ true) × (after ≡ before)))

@@ -15,7 +15,7 @@ use std::alloc::Global;
 /// refused, or there are 0 options or more than 64, and 2 where there is no memory, and then the masks stay.
 #[unsafe(no_mangle)]
 pub extern "C" fn answer_clauses(heap: Global, options: u32, body: &[u8], masks: &mut [u64]) -> u32
-    ensures { Outcome (passes (told options) && passes (clauses_checks options 0 body.now)) (clauses_reply (clauses_of body.now)) masks.old result masks.new }
+    ensures { Outcome (passes (told options) && passes (clauses_checks options 0 body.now)) (passes (told options) && passes (clauses_checks options 0 body.now)) (clauses_reply (clauses_of body.now)) masks.old result masks.new }
 {
     code(answer::<ClauseSheet>(heap, options, body, masks))
 }
@@ -29,7 +29,7 @@ pub extern "C" fn answer_clauses_hiding(
     hidden: u64,
     masks: &mut [u64],
 ) -> u32
-    ensures { Outcome (passes (told options) && passes (clauses_checks options 0 body.now) && hides options hidden) (project hidden (clauses_reply (clauses_of body.now))) masks.old result masks.new }
+    ensures { Outcome (passes (told options) && passes (clauses_checks options 0 body.now)) (passes (told options) && passes (clauses_checks options 0 body.now) && hides options hidden) (project hidden (clauses_reply (clauses_of body.now))) masks.old result masks.new }
 {
     code(answer_hiding::<ClauseSheet>(heap, options, body, hidden, masks))
 }

@@ -3,7 +3,7 @@ ghost use Rattle.std.specs.Prelude.{◌≡◌, true, false, ◌&&◌, [], ◌∷
 ghost use Rattle.folders.specs.Entries.{project};
 ghost use Rattle.sheet_rules.specs.SheetsHeld.{sheets_held};
 ghost use Rattle.facade.specs.Outcomes.{hides, passes, told, Answered};
-ghost use Rattle.facade.specs.declared.failure.Failure.TheVariants.{Refused};
+ghost use Rattle.facade.specs.declared.failure.Failure.TheVariants.{Refused, NoMemory};
 
 use crate::asking::answer_all;
 use crate::failure::Failure;
@@ -21,7 +21,7 @@ pub(crate) fn answer<'a, S: Sheet<'a> + SheetRule>(
     body: &'a [u8],
     masks: &mut [u64],
 ) -> Result<(), Failure>
-    ensures { Answered (passes (told options) && passes (S.Sheet.checks options 0 body.now)) (S.SheetRule.rule_of body.now) masks.old result masks.new }
+    ensures { Answered (passes (told options) && passes (S.Sheet.checks options 0 body.now)) (passes (told options) && passes (S.Sheet.checks options 0 body.now)) (S.SheetRule.rule_of body.now) masks.old result masks.new }
 {
     let mut rules = rules_of::<S>(heap, options, body)?;
     answer_all(&mut rules, masks);
@@ -36,7 +36,7 @@ pub(crate) fn answer_hiding<'a, S: Sheet<'a> + SheetRule>(
     hidden: u64,
     masks: &mut [u64],
 ) -> Result<(), Failure>
-    ensures { Answered (passes (told options) && passes (S.Sheet.checks options 0 body.now) && hides options hidden) (project hidden (S.SheetRule.rule_of body.now)) masks.old result masks.new }
+    ensures { Answered (passes (told options) && passes (S.Sheet.checks options 0 body.now)) (passes (told options) && passes (S.Sheet.checks options 0 body.now) && hides options hidden) (project hidden (S.SheetRule.rule_of body.now)) masks.old result masks.new }
 {
     let rules = rules_of::<S>(heap, options, body)?;
     let draft = hiding(heap, options, hidden)?;
@@ -51,7 +51,7 @@ fn rules_of<'a, S: Sheet<'a> + SheetRule>(
     options: u32,
     body: &'a [u8],
 ) -> Result<SheetRules<S>, Failure>
-    ensures { MatchResult result (λ r. (passes (told options) ≡ true) × (passes (S.Sheet.checks options 0 body.now) ≡ true) × (map S.SheetBody.body_of (sheets_held r) ≡ body.now ∷ [])) (λ e. e ≡ Refused → (passes (told options) && passes (S.Sheet.checks options 0 body.now)) ≡ false) }
+    ensures { MatchResult result (λ r. (passes (told options) ≡ true) × (passes (S.Sheet.checks options 0 body.now) ≡ true) × (map S.SheetBody.body_of (sheets_held r) ≡ body.now ∷ [])) (λ e. (e ≡ Refused → (passes (told options) && passes (S.Sheet.checks options 0 body.now)) ≡ false) × (e ≡ NoMemory → (passes (told options) && passes (S.Sheet.checks options 0 body.now)) ≡ true)) }
 {
     if !is_told(options) {
         return Err(Failure::Refused);
