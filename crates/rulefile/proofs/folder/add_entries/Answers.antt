@@ -86,6 +86,11 @@ added d f n below xs ef en eb room low high =
     ∙ ap (λ m. judged (entry_checks n m f) (tt {0})) eb
     ∙ ap (λ g. judged (entry_checks n below g) (tt {0})) ef
 
+-- the same, with each refusal put into the fault of the entry
+mapped_added : (d : Draft) (f : EntryFields) (n below place i : ℕ) (xs : List ℕ) → f ≡ fields_of xs → d.options ≡ n → d.below ≡ below → vec_len d.entries < 32 → 1 ≤ n → n ≤ 64 → {s : Result (Unit {0}) Refusal} {r : Result (Unit {0}) FolderFault} {P : Refusal → FolderFault → Type 0} → MatchResult s (λ x. r ≡ Ok x) (λ e. IsErrAnd r (P e)) → ((e : Refusal) (g : FolderFault) → P e g → g ≡ at_entry place i e) → s ≡ judged (draft_checks d f) (tt {0}) → r ≡ judged (within (at_entry place i) (entry_checks n below (fields_of xs))) (tt {0})
+mapped_added d f n below place i xs ef en eb room low high cases turns answer =
+    mapped place i (entry_checks n below (fields_of xs)) cases turns (answer ∙ added d f n below xs ef en eb room low high)
+
 pub loop-item-init : goal.loop-item-init
 loop-item-init c =
     let none = c.requires.empty in
@@ -109,8 +114,7 @@ returns-in_err-map_err-clause-answer c =
     let some : 12 * i < length body = omega arith in
     let room : vec_len d.entries < 32 = omega (arith, d.entries.ok.0, inv.count, c.requires.whole) in
     let fields = fields_at body i inside c.as_chunks.ensures.front c.read_fields.ensures in
-    let own = added d c.read_fields.result n below (drop (12 * i) body) fields inv.options inv.below room c.requires.told.0 c.requires.told.1 in
-    let told = mapped c.args.body.place i (entry_checks n below (fields_of (drop (12 * i) body))) c.map_err.ensures.cases (λ e f k. search rules) (c.add.ensures.answer ∙ own) in
+    let told = mapped_added d c.read_fields.result n below c.args.body.place i (drop (12 * i) body) fields inv.options inv.below room c.requires.told.0 c.requires.told.1 c.map_err.ensures.cases (λ e f k. search rules) c.add.ensures.answer in
     let e = entry_stops n below c.args.body.place i body some c.in_err-map_err.field-0.0 (sym c.in_err-map_err.was ∙ told) in
     let p = err_from_is_err_and c.from_residual.result c.from_residual.ensures.1 in
     rw (p.1, p.2) (sym e ∙ inv.decides)
@@ -128,8 +132,7 @@ loop-item-preserved c =
     let some : 12 * i < length body = omega arith in
     let room : vec_len d.entries < 32 = omega (arith, d.entries.ok.0, inv.count, c.requires.whole) in
     let fields = fields_at body i inside c.as_chunks.ensures.front c.read_fields.ensures in
-    let own = added d c.read_fields.result n below (drop (12 * i) body) fields inv.options inv.below room c.requires.told.0 c.requires.told.1 in
-    let told = mapped c.args.body.place i (entry_checks n below (fields_of (drop (12 * i) body))) c.map_err.ensures.cases (λ e f k. search rules) (c.add.ensures.answer ∙ own) in
+    let told = mapped_added d c.read_fields.result n below c.args.body.place i (drop (12 * i) body) fields inv.options inv.below room c.requires.told.0 c.requires.told.1 c.map_err.ensures.cases (λ e f k. search rules) c.add.ensures.answer in
     let e = entry_passes n below c.args.body.place i body some (sym c.in_ok-map_err.was ∙ told) in
     let ok : c.add.result ≡ Ok tt = was_added _ c.map_err.ensures.cases c.in_ok-map_err.was in
     let grown : drafted d' ≡ drafted d ++ entry_in (drop (12 * i) body) ∷ [] = rw (ok, fields) at c.add.ensures.entries in
