@@ -25,7 +25,7 @@ pub fn splitting_laws()
 {}
 
 /// The lines of the replies have just one line's end, and two replies with the same line are of one kind, with the same
-/// numbers and values.
+/// number and, of what is consistent, the same value at each option that has a letter.
 pub fn reply_laws()
     ensures one_line { OneLines }
     ensures told_apart { ToldApart }

@@ -1,5 +1,5 @@
-// Tests of `commands` against docs/COMMANDS.md and docs/REFUSALS.md. What they expect is worked out from those pages by
-// hand.
+// Tests of `commands`, and of the line of a `FileFault`, against docs/COMMANDS.md and docs/REFUSALS.md. What they expect is
+// worked out from those pages by hand.
 #![tactic(auto)]
 
 #[cfg(test)]

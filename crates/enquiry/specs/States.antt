@@ -53,7 +53,7 @@ step o s Again = done_or_refused Done s s.settlements
 step o s Look = record { reply = look_answer o s.settlements; state = s }
 step o s (Next budget) = after_next s (run_on (asked o) o.order (known_with o s.settlements) budget s.place)
 
--- what is said of each call that asks no rule; of a look and a next nothing
+-- what is said of a settle, a back and an again; of a look and a next nothing is
 abbrev pub unasked : Call → Type 0 → Type 0
 unasked (Settle option v) said = said
 unasked Back said = said

@@ -16,7 +16,7 @@ use Rattle.listing.specs.declared.build.Build.{Build}
 abbrev pub done : Call → Said
 done call = record { call = call; reply = Done }
 
--- A settle leaves the builds that have the value. A back makes the newest settlement that stands undone. Any other call
+-- A settle leaves the builds that have the value. A back undoes the newest settlement that stands. Any other call
 -- leaves what fits, and so does one that is refused.
 pub record Settles (o : Opening) : Type 0 where
   pub settled : (h : History) (option : ℕ) (value : Bool) → option < 64 → (b : Build) → Fitting o (done (Settle option value) ∷ h) b ↔ (Fitting o h b × (has b.yes option ≡ value))

@@ -3,7 +3,7 @@ ghost use Rattle.rulestack.specs.AlgebraExamples.{AlgebraExamples};
 ghost use Rattle.rulestack.specs.Statements.{FileAllows, FileCount, FileLawful};
 
 /// The rules of any contents keep the promises of a rule set. Those of well-formed contents are as many as the topmost
-/// folder has entries, and allow exactly the builds that the sheets and the table of entries say.
+/// folder has entries, or as there are sheets where there is no folder, and allow exactly the builds that the sheets and the table of entries say.
 pub fn file_laws()
     ensures lawful { FileLawful }
     ensures count { FileCount }

@@ -77,7 +77,7 @@ NotLostHad =
     → (lost b w ≡ false → knows b w.option (not w.negated) ≡ true)
     × (knows b w.option (not w.negated) ≡ true → lost b w ≡ false)
 
--- what the k-th of a list replies is what rule k does, of the first 64, and there are no other rules
+-- rule k replies what the k-th of a list does, for the first 64, and there are no other rules
 pub record OneEach {X : Type 0} (reply : X → Rule) (xs : List X) (rules : Meaning) : Type 0 where
   pub count : rules.count ≡ min 64 (length xs)
   pub each : (k : ℕ) (x : X) (a : Assignment) → k < 64 → k < length xs → slice_index_or xs k x ≡ x → rules.reply k a ≡ reply x a
