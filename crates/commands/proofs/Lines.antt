@@ -16,10 +16,6 @@ pub letters_first : (letter : ℕ → ℕ) (options : ℕ) (letters first : List
 letters_first letter options letters first all e =
     e ∙ ap (take (min options 64)) all ∙ take-map-range_with_len letter 0 64 (min options 64) (omega arith)
 
--- two words, or four, with what stands between
-
+-- two words with what stands between
 pub two_joined : (w s a b c d : List ℕ) → a ≡ c → b ≡ d → w ++ (a ++ (s ++ (b ++ []))) ≡ w ++ c ++ s ++ d
 two_joined w s a b c d p q = rw (p, q) (simp (append_assoc, append-nil))
-
-pub four_joined : (w s a b c d e f g h : List ℕ) → a ≡ e → b ≡ f → c ≡ g → d ≡ h → w ++ (a ++ (s ++ (b ++ (s ++ (c ++ (s ++ (d ++ []))))))) ≡ w ++ e ++ s ++ f ++ s ++ g ++ s ++ h
-four_joined w s a b c d e f g h p q r t = rw (p, q, r, t) (simp (append_assoc, append-nil))
