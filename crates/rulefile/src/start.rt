@@ -1,7 +1,7 @@
 // The start record: how many options there are, and what is known of them from the outset.
-ghost use Rattle.std.specs.Prelude.{◌≡◌};
+ghost use Rattle.std.specs.Prelude.{◌≡◌, length};
 ghost use Rattle.refusals.specs.Checks.{judged, seen};
-ghost use Rattle.ruleformat.specs.Starts.{start_checks};
+ghost use Rattle.ruleformat.specs.Starts.{start_checks, yes_mask, no_mask};
 ghost use Rattle.rulefile.specs.Views.{start_view, start_in};
 
 use crate::bytes::read_u64;
@@ -36,7 +36,7 @@ pub(crate) fn read_start(body: Body<'_>) -> Result<Start, FileFault>
         return Err(fault(Refusal::OutOfRange));
     }
     let options = u32::from(options);
-    let known = Assignment::new(read_u64(&bytes[1..9]), read_u64(&bytes[9..]));
+    let known = read_known(bytes);
     if has_bit_from(known.yes_mask(), options) {
         return Err(fault(Refusal::BeyondOptions));
     }
@@ -47,4 +47,13 @@ pub(crate) fn read_start(body: Body<'_>) -> Result<Start, FileFault>
         return Err(fault(Refusal::Conflict));
     }
     Ok(Start { options, known })
+}
+
+// What the two masks behind the number of options say.
+fn read_known(bytes: &[u8]) -> Assignment
+    requires { length bytes.now ≡ 17 }
+    ensures yes { result.yes ≡ yes_mask bytes.now }
+    ensures no { result.no ≡ no_mask bytes.now }
+{
+    Assignment::new(read_u64(&bytes[1..9]), read_u64(&bytes[9..]))
 }
