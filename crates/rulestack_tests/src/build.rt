@@ -1,9 +1,10 @@
 // Assignments, sheets and folders written as words.
 use assignment::Assignment;
 use entries::{Draft, EntryFields, EntrySpace, Op};
-use refusals::Body;
-use sheet_rules::{ClauseSheets, TableSheets};
-use sheets::{ClauseSheet, Sheet, TableSheet};
+use refusals::{Body, SheetFault};
+use ruleset::SideBySide;
+use sheet_rules::{ClauseSheets, SheetRule, SheetRules, TableSheets};
+use sheets::Sheet;
 use std::alloc::Global;
 use std::test::Fail;
 
@@ -53,104 +54,114 @@ fn mask_of(word: &str) -> Result<u64, Fail> {
     Ok(mask)
 }
 
-// The bodies of tables with `/` between them, each as `0 1: nn ny yy`: the columns, and the rows.
-pub(crate) fn tables(heap: Global, text: &str) -> Result<Vec<Vec<u8>>, Fail> {
-    let mut bodies = Vec::new(heap);
-    if text.is_empty() {
-        return Ok(bodies);
+// The mask of options, as `3-7 9`.
+fn mask(options: &str) -> Result<u64, Fail> {
+    let mut mask = 0;
+    for word in options.split_whitespace() {
+        mask |= mask_of(word)?;
     }
-    for table in text.split('/') {
-        bodies.push(table_body(heap, table)?)?;
-    }
-    Ok(bodies)
+    Ok(mask)
 }
 
-fn table_body(heap: Global, table: &str) -> Result<Vec<u8>, Fail> {
-    let (columns, rows) = table.split_once(':').ok_or("no columns")?;
-    let mut body = Vec::new(heap);
-    body.push(u8::try_from(columns.split_whitespace().count())?)?;
-    for column in columns.split_whitespace() {
-        body.push(column.parse::<u8>()?)?;
-    }
-    for row in rows.split_whitespace() {
-        body.extend_from_slice(&row_bits(row)?.to_le_bytes())?;
-    }
-    Ok(body)
-}
-
-fn row_bits(row: &str) -> Result<u16, Fail> {
-    let mut bits = 0;
-    for letter in row.as_bytes().iter().rev() {
-        let bit = match letter {
-            b'y' => 1,
-            b'n' => 0,
-            _ => return Err(Fail::new("neither y nor n")),
+// What is known, from letters for the options from 0 on: `y`, `n`, `?` for unknown and `*` for both. Every option behind
+// them is no.
+pub(crate) fn in_letters(letters: &str) -> Result<Assignment, Fail> {
+    let mut yes = 0;
+    let mut no = u64::MAX;
+    for letter in letters.as_bytes().iter().rev() {
+        let (yes_bit, no_bit) = match letter {
+            b'y' => (1, 0),
+            b'n' => (0, 1),
+            b'?' => (0, 0),
+            b'*' => (1, 1),
+            _ => return Err(Fail::new("no such letter")),
         };
-        bits = bits << 1 | bit;
+        yes = yes << 1 | yes_bit;
+        no = no << 1 | no_bit;
     }
-    Ok(bits)
+    Ok(Assignment::new(yes, no))
 }
 
-// The bodies of clause sheets with `/` between them, each as `2 3; 1 -2`: in each clause the options that are wanted
-// yes, and behind a minus those that are wanted no. The sheet without clauses is written `no clauses`.
-pub(crate) fn clauses(heap: Global, text: &str) -> Result<Vec<Vec<u8>>, Fail> {
+// The bodies of sheets with `/` between them. A table is written as `0 1: nn ny yy`: the columns, and the rows. A clause
+// sheet is written as `2 3; 1 -2`: in each clause the options that are wanted yes, and behind a minus those that are
+// wanted no. The sheet without clauses is written `no clauses`.
+pub(crate) fn bodies(heap: Global, text: &str) -> Result<Vec<Vec<u8>>, Fail> {
     let mut bodies = Vec::new(heap);
     if text.is_empty() {
         return Ok(bodies);
     }
     for sheet in text.split('/') {
-        bodies.push(clauses_body(heap, sheet.trim())?)?;
+        let mut body = Vec::new(heap);
+        add_sheet(&mut body, sheet.trim())?;
+        bodies.push(body)?;
     }
     Ok(bodies)
 }
 
-fn clauses_body(heap: Global, sheet: &str) -> Result<Vec<u8>, Fail> {
-    let mut body = Vec::new(heap);
+fn add_sheet(body: &mut Vec<u8>, sheet: &str) -> Result<(), Fail> {
     if sheet == "no clauses" {
-        return Ok(body);
+        return Ok(());
     }
-    for clause in sheet.split(';') {
-        body.push(u8::try_from(clause.split_whitespace().count())?)?;
-        for wanted in clause.split_whitespace() {
-            body.push(wanted_byte(wanted)?)?;
+    match sheet.split_once(':') {
+        Some((columns, rows)) => {
+            add_list(body, columns)?;
+            add_rows(body, rows)
         }
-    }
-    Ok(body)
-}
-
-fn wanted_byte(wanted: &str) -> Result<u8, Fail> {
-    match wanted.strip_prefix('-') {
-        Some(option) => Ok(option.parse::<u8>()? | 128),
-        None => Ok(wanted.parse::<u8>()?),
+        None => add_clauses(body, sheet),
     }
 }
 
-// Tables in a file with so many options.
-pub(crate) fn table_sheets(
+fn add_rows(body: &mut Vec<u8>, rows: &str) -> Result<(), Fail> {
+    for row in rows.split_whitespace() {
+        let bits = in_letters(row)?.yes_mask();
+        body.extend_from_slice(&u16::try_from(bits)?.to_le_bytes())?;
+    }
+    Ok(())
+}
+
+fn add_clauses(body: &mut Vec<u8>, clauses: &str) -> Result<(), Fail> {
+    for clause in clauses.split(';') {
+        add_list(body, clause)?;
+    }
+    Ok(())
+}
+
+// How many options a list has, and each of them in a byte. Its highest bit is set behind a minus.
+fn add_list(body: &mut Vec<u8>, options: &str) -> Result<(), Fail> {
+    body.push(u8::try_from(options.split_whitespace().count())?)?;
+    for option in options.split_whitespace() {
+        let byte = match option.strip_prefix('-') {
+            Some(negated) => negated.parse::<u8>()? | 128,
+            None => option.parse::<u8>()?,
+        };
+        body.push(byte)?;
+    }
+    Ok(())
+}
+
+// Sheets of one kind in a file with so many options.
+pub(crate) fn sheet_rules<'a, S: Sheet<'a> + SheetRule>(
     heap: Global,
-    bodies: &[Vec<u8>],
+    bodies: &'a [Vec<u8>],
     options: u32,
-) -> Result<TableSheets<'_>, Fail> {
+) -> Result<SheetRules<S>, Fail> {
     let mut sheets = Vec::new(heap);
     for body in bodies {
         let bytes = body.as_slice();
-        sheets.push(TableSheet::read(Body { bytes, place: 0 }, options)?)?;
+        sheets.push(S::read(Body { bytes, place: 0 }, options)?)?;
     }
-    Ok(TableSheets::new(sheets))
+    Ok(SheetRules::new(sheets))
 }
 
-// Clause sheets in a file with so many options.
-pub(crate) fn clause_sheets(
+// Tables beside clause sheets.
+pub(crate) fn beside<'a>(
     heap: Global,
-    bodies: &[Vec<u8>],
-    options: u32,
-) -> Result<ClauseSheets<'_>, Fail> {
-    let mut sheets = Vec::new(heap);
-    for body in bodies {
-        let bytes = body.as_slice();
-        sheets.push(ClauseSheet::read(Body { bytes, place: 0 }, options)?)?;
-    }
-    Ok(ClauseSheets::new(sheets))
+    tables: &'a [Vec<u8>],
+    clauses: &'a [Vec<u8>],
+) -> Result<SideBySide<TableSheets<'a>, ClauseSheets<'a>>, Fail> {
+    let tables = sheet_rules(heap, tables, 64)?;
+    let clauses = sheet_rules(heap, clauses, 64)?;
+    Ok(SideBySide::new(tables, clauses))
 }
 
 // A draft with these entries, told 64 options and so many rules below.
@@ -165,32 +176,31 @@ pub(crate) fn draft(heap: Global, below: u32, entries: &str) -> Result<Draft, Fa
     Ok(draft)
 }
 
-// The fields of an entry, as `carry 0`, `product 0 1`, `selection 0 left 2 right 4 width 1`, `projection 0 hides 3-7 9`
-// or `none`: behind `projection` one rule and the options that are hidden.
+// The fields of an entry, as `carry 0`, `product 0 and 1`, `selection 0 left 2 right 4 width 1`, `projection 0 hides 3-7 9`
+// or `none`: the op, up to four numbers with a word between them, and the options that are hidden.
 pub(crate) fn fields_of(entry: &str) -> Result<EntryFields, Fail> {
-    let mut words = entry.split_whitespace();
+    let (shown, hidden) = entry.split_once("hides").unwrap_or((entry, ""));
+    let mut words = shown.split_whitespace();
     let op = op_of(words.next().ok_or("no op")?)?;
-    let mut fields = EntryFields {
+    let first = number(words.next())?;
+    let second = number(words.nth(1))?;
+    let third = number(words.nth(1))?;
+    let width = number(words.nth(1))?;
+    Ok(EntryFields {
         op: op.code(),
-        first: 0,
-        second: 0,
-        third: 0,
-        word: 0,
-    };
-    if let Some(first) = words.next() {
-        fields.first = first.parse::<u8>()?;
+        first,
+        second,
+        third,
+        word: u64::from(width) | mask(hidden)?,
+    })
+}
+
+// A number, or 0 where there is none.
+fn number(word: Option<&str>) -> Result<u8, Fail> {
+    match word {
+        Some(word) => Ok(word.parse::<u8>()?),
+        None => Ok(0),
     }
-    while let Some(word) = words.next() {
-        match word {
-            "left" => fields.second = words.next().ok_or("no option")?.parse::<u8>()?,
-            "right" => fields.third = words.next().ok_or("no option")?.parse::<u8>()?,
-            "width" => fields.word = words.next().ok_or("no width")?.parse::<u64>()?,
-            "and" | "or" => fields.second = words.next().ok_or("no rule")?.parse::<u8>()?,
-            "hides" => {}
-            _ => fields.word |= mask_of(word)?,
-        }
-    }
-    Ok(fields)
 }
 
 fn op_of(name: &str) -> Result<Op, Fail> {

@@ -1,15 +1,9 @@
 // Replies of clause sheets.
-use crate::build::{CLAUSES, clause_sheets, clauses};
-use crate::expect::{expect_absent, expect_of_clauses, expect_replies, expect_same};
-use ruleset::RuleSet;
+use crate::expect::{expect_each, expect_of_clauses};
 use std::test::Fail;
 
-#[test]
-fn values_left(rt: HostRuntime) -> Result<(), Fail> {
-    expect_of_clauses(
-        rt.alloc(),
-        CLAUSES,
-        "
+const CASES: &str = "
+    values left | 64 | 1 | 2 3; 1 -2
         nothing known | 0 | nothing | same
         one left in the second clause only | 0 | no 1 | no 1 2
         one left in both, one of them known | 0 | no 1 2 | no 1 2 yes 3
@@ -20,16 +14,8 @@ fn values_left(rt: HostRuntime) -> Result<(), Fail> {
         other options stay | 0 | no 1 40 yes 63 | no 1 2 40 yes 63
         inconsistent in a clause | 0 | both 2 | contradiction
         inconsistent elsewhere | 0 | both 9 | contradiction
-        ",
-    )
-}
 
-#[test]
-fn builds(rt: HostRuntime) -> Result<(), Fail> {
-    expect_of_clauses(
-        rt.alloc(),
-        CLAUSES,
-        "
+    builds | 64 | 1 | 2 3; 1 -2
         a value of each clause | 0 | no 0-63 yes 3 | same
         another value of each | 0 | no 0-63 yes 1 2 | same
         all yes | 0 | yes 0-63 | same
@@ -37,16 +23,8 @@ fn builds(rt: HostRuntime) -> Result<(), Fail> {
         none of the second clause | 0 | no 0-63 yes 2 | contradiction
         none of the second clause, both of the first | 0 | yes 0-63 no 1 | contradiction
         one option inconsistent, else a build | 0 | yes 0-63 both 40 | contradiction
-        ",
-    )
-}
 
-#[test]
-fn judged_on_the_question(rt: HostRuntime) -> Result<(), Fail> {
-    expect_of_clauses(
-        rt.alloc(),
-        "-2; 2 3 / 2 3; -2 / 5; -5; 7 / 1 5; 1 -5 / 4; 1 2 / 1 2; -4 / -5; 5",
-        "
+    judged on the question | 64 | 7 | -2; 2 3 / 2 3; -2 / 5; -5; 7 / 1 5; 1 -5 / 4; 1 2 / 1 2; -4 / -5; 5
         what a clause before adds is no matter | 0 | nothing | no 2
         what a clause behind adds is no matter | 1 | nothing | no 2
         asked again with the reply | 0 | no 2 | no 2 yes 3
@@ -59,16 +37,8 @@ fn judged_on_the_question(rt: HostRuntime) -> Result<(), Fail> {
         two that clash, a build | 2 | yes 0-63 | contradiction
         a lost clause behind one that adds | 4 | no 1 2 | contradiction
         a lost clause before one that adds | 5 | no 1 2 | contradiction
-        ",
-    )
-}
 
-#[test]
-fn shapes(rt: HostRuntime) -> Result<(), Fail> {
-    expect_of_clauses(
-        rt.alloc(),
-        "no clauses / 63 / -0 / 0 1 2 3 4 5 6 7 8 9 10 11 12 13 14 15 / 1; 1; 1 / 0 1; 0 1",
-        "
+    shapes | 64 | 6 | no clauses / 63 / -0 / 0 1 2 3 4 5 6 7 8 9 10 11 12 13 14 15 / 1; 1; 1 / 0 1; 0 1
         no clauses, nothing known | 0 | nothing | same
         no clauses, something known | 0 | yes 0 no 1 | same
         no clauses, a build | 0 | yes 5 no 0-4 6-63 | same
@@ -82,40 +52,22 @@ fn shapes(rt: HostRuntime) -> Result<(), Fail> {
         sixteen values, all lost | 3 | no 0-15 | contradiction
         the same clause three times | 4 | nothing | yes 1
         the same clause twice | 5 | no 1 | no 1 yes 0
-        ",
-    )
-}
 
-#[test]
-fn options_past_the_file(rt: HostRuntime) -> Result<(), Fail> {
-    let heap = rt.alloc();
-    let bodies = clauses(heap, CLAUSES)?;
-    let mut rules = clause_sheets(heap, bodies.as_slice(), 4)?;
-    expect_replies(
-        &mut rules,
-        "
+    options past the file | 4 | 1 | 2 3; 1 -2
         known past the options | 0 | no 1 4 63 yes 50 | no 1 2 4 63 yes 50
         inconsistent past the options | 0 | both 4 | contradiction
         yes past the options in a build | 0 | yes 3-63 no 0-2 | same
-        ",
-    )
-}
 
-#[test]
-fn numbers(rt: HostRuntime) -> Result<(), Fail> {
-    let heap = rt.alloc();
-    let bodies = clauses(heap, "0 / no clauses")?;
-    let mut rules = clause_sheets(heap, bodies.as_slice(), 64)?;
-    expect_same(rules.count(), 2, "count")?;
-    expect_replies(
-        &mut rules,
-        "
+    numbers | 64 | 2 | 0 / no clauses
         the first | 0 | nothing | yes 0
         the second | 1 | nothing | nothing
-        ",
-    )?;
-    expect_absent(&mut rules, &[2, 3, 31, 32, 63, 64, 256, u32::MAX])?;
-    let mut none = clause_sheets(heap, &[], 64)?;
-    expect_same(none.count(), 0, "count of no clause sheets")?;
-    expect_absent(&mut none, &[0, 1, 63, 64, u32::MAX])
+        absent | 2 3 31 32 63 64 256 4294967295
+
+    no clause sheets | 64 | 0 |
+        absent | 0 1 63 64 4294967295
+";
+
+#[test]
+fn clause_sheets(rt: HostRuntime) -> Result<(), Fail> {
+    expect_each(rt.alloc(), CASES, expect_of_clauses)
 }

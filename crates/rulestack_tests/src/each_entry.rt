@@ -1,27 +1,15 @@
 // Replies of a folder's entries over sheets; tests of projections have a file of their own.
 use crate::beside::no_clauses;
-use crate::build::{CLAUSES, TABLE, clause_sheets, clauses, draft};
-use crate::expect::{Laid, expect_absent, expect_of_folder, expect_replies, expect_same};
+use crate::build::sheet_rules;
+use crate::expect::{expect_cases, expect_each, expect_of_folder, expect_told};
 use entries::{Draft, EntrySpace};
 use folders::Folder;
 use ruleset::RuleSet;
+use sheet_rules::ClauseSheets;
 use std::test::Fail;
 
-// Entries over the table, rule 0, and the clauses, rule 1.
-fn sample(entries: &str) -> Laid<'_> {
-    Laid {
-        tables: TABLE,
-        clauses: CLAUSES,
-        entries,
-    }
-}
-
-#[test]
-fn carry(rt: HostRuntime) -> Result<(), Fail> {
-    expect_of_folder(
-        rt.alloc(),
-        sample("carry 1; carry 0"),
-        "
+const CASES: &str = "
+    carry | 0 1: nn ny yy | 2 3; 1 -2 | carry 1; carry 0
         nothing known | 0 | nothing | same
         partly known | 0 | no 1 | no 1 2
         a build allowed | 0 | no 0-63 yes 3 | same
@@ -29,16 +17,8 @@ fn carry(rt: HostRuntime) -> Result<(), Fail> {
         inconsistent | 0 | both 9 | contradiction
         the other rule | 1 | yes 0 | yes 0 1
         the other rule, refused | 1 | yes 0 no 1 | contradiction
-        ",
-    )
-}
 
-#[test]
-fn product(rt: HostRuntime) -> Result<(), Fail> {
-    expect_of_folder(
-        rt.alloc(),
-        sample("product 0 and 1; product 1 and 0; product 1 and 1"),
-        "
+    product | 0 1: nn ny yy | 2 3; 1 -2 | product 0 and 1; product 1 and 0; product 1 and 1
         nothing known | 0 | nothing | same
         both add | 0 | no 1 | no 0 1 2
         only the first adds | 0 | yes 0 | yes 0 1
@@ -50,55 +30,21 @@ fn product(rt: HostRuntime) -> Result<(), Fail> {
         inconsistent | 0 | both 9 | contradiction
         the other way round | 1 | no 1 | no 0 1 2
         one rule twice | 2 | no 1 | no 1 2
-        ",
-    )
-}
 
-#[test]
-fn product_of_replies_that_disagree(rt: HostRuntime) -> Result<(), Fail> {
-    let laid = Laid {
-        tables: "0 1: nn ny yy",
-        clauses: "-1 / 5 / -5",
-        entries: "product 0 and 1; product 2 and 3; product 3 and 2",
-    };
-    expect_of_folder(
-        rt.alloc(),
-        laid,
-        "
+    product of replies that disagree | 0 1: nn ny yy | -1 / 5 / -5 | product 0 and 1; product 2 and 3; product 3 and 2
         a table and a clause | 0 | yes 0 | yes 0 both 1
         they agree | 0 | no 0 | no 0 1
         two clauses | 1 | nothing | both 5
         two clauses, some known | 1 | yes 7 no 4 | yes 7 no 4 both 5
         two clauses, turned round | 2 | yes 7 | yes 7 both 5
         one of them the contradiction | 1 | yes 5 | contradiction
-        ",
-    )
-}
 
-#[test]
-fn neither_is_told_of_the_other(rt: HostRuntime) -> Result<(), Fail> {
-    let laid = Laid {
-        tables: "",
-        clauses: "-2 / 2 3",
-        entries: "product 0 and 1; product 1 and 0",
-    };
-    expect_of_folder(
-        rt.alloc(),
-        laid,
-        "
+    neither is told of the other | | -2 / 2 3 | product 0 and 1; product 1 and 0
         what the first adds | 0 | nothing | no 2
         what the second adds | 1 | nothing | no 2
         asked again | 0 | no 2 | no 2 yes 3
-        ",
-    )
-}
 
-#[test]
-fn either(rt: HostRuntime) -> Result<(), Fail> {
-    expect_of_folder(
-        rt.alloc(),
-        sample("either 0 or 1; either 1 or 0; either 0 or 0"),
-        "
+    either | 0 1: nn ny yy | 2 3; 1 -2 | either 0 or 1; either 1 or 0; either 0 or 0
         nothing known | 0 | nothing | same
         both add, but not the same | 0 | no 1 | no 1
         only one adds | 0 | yes 0 | yes 0
@@ -114,41 +60,17 @@ fn either(rt: HostRuntime) -> Result<(), Fail> {
         the other way round | 1 | yes 0 no 1 | yes 0 no 1 2
         one rule twice | 2 | yes 0 | yes 0 1
         one rule twice, refused | 2 | yes 0 no 1 | contradiction
-        ",
-    )
-}
 
-#[test]
-fn either_of_inconsistent_replies(rt: HostRuntime) -> Result<(), Fail> {
-    let laid = Laid {
-        tables: "",
-        clauses: "5; -5 / 6; 7; 5 / 6; -6 / 4; 5",
-        entries: "either 0 or 1; either 1 or 0; either 0 or 2; either 0 or 0; either 1 or 3",
-    };
-    expect_of_folder(
-        rt.alloc(),
-        laid,
-        "
+    either of inconsistent replies | | 5; -5 / 6; 7; 5 / 6; -6 / 4; 5 | either 0 or 1; either 1 or 0; either 0 or 2; \
+            either 0 or 0; either 1 or 3
         the first is inconsistent | 0 | nothing | yes 5 6 7
         the second is inconsistent | 1 | yes 1 no 2 | yes 1 5 6 7 no 2
         both, at different options | 2 | nothing | contradiction
         both, at the same option | 3 | nothing | contradiction
         none is inconsistent | 4 | nothing | yes 5
-        ",
-    )
-}
 
-#[test]
-fn selection(rt: HostRuntime) -> Result<(), Fail> {
-    let laid = Laid {
-        tables: "",
-        clauses: "4; -9 / no clauses",
-        entries: "selection 0 left 4 right 8 width 2; selection 1 left 4 right 8 width 2; selection 1 left 8 right 4 width 1",
-    };
-    expect_of_folder(
-        rt.alloc(),
-        laid,
-        "
+    selection | | 4; -9 / no clauses | selection 0 left 4 right 8 width 2; selection 1 left 4 right 8 width 2; \
+            selection 1 left 8 right 4 width 1
         what the rule adds moves both ways | 0 | nothing | yes 4 8 no 5 9
         what is known moves to the right | 1 | yes 4 no 5 | yes 4 8 no 5 9
         what is known moves to the left | 1 | yes 9 no 8 | yes 5 9 no 4 8
@@ -162,53 +84,20 @@ fn selection(rt: HostRuntime) -> Result<(), Fail> {
         the rule refuses, nothing else known | 0 | no 4 | contradiction
         inconsistent | 1 | both 4 | contradiction
         inconsistent beside the ranges | 1 | both 50 | contradiction
-        ",
-    )
-}
 
-#[test]
-fn selection_ranges(rt: HostRuntime) -> Result<(), Fail> {
-    let laid = Laid {
-        tables: "",
-        clauses: "no clauses",
-        entries: "selection 0 left 0 right 32 width 32; selection 0 left 2 right 0 width 2; selection 0 left 0 right 63 width 1",
-    };
-    expect_of_folder(
-        rt.alloc(),
-        laid,
-        "
+    selection, ranges | | no clauses | selection 0 left 0 right 32 width 32; selection 0 left 2 right 0 width 2; \
+            selection 0 left 0 right 63 width 1
         the whole lower half | 0 | yes 0 5 no 40 63 | yes 0 5 32 37 no 8 31 40 63
         side by side | 1 | yes 0 no 3 | yes 0 2 no 1 3
         not handed on further | 1 | yes 4 | same
         the outermost options | 2 | no 63 | no 0 63
-        ",
-    )
-}
 
-#[test]
-fn selection_asks_once(rt: HostRuntime) -> Result<(), Fail> {
-    let laid = Laid {
-        tables: "",
-        clauses: "4; 6 -8",
-        entries: "selection 0 left 4 right 8 width 1",
-    };
-    expect_of_folder(
-        rt.alloc(),
-        laid,
-        "
+    selection asks once | | 4; 6 -8 | selection 0 left 4 right 8 width 1
         what moved is not told | 0 | nothing | yes 4 8
         asked again | 0 | yes 4 8 | yes 4 6 8
         known on the other side only | 0 | yes 8 | yes 4 6 8
-        ",
-    )
-}
 
-#[test]
-fn complement(rt: HostRuntime) -> Result<(), Fail> {
-    expect_of_folder(
-        rt.alloc(),
-        sample("complement 0; complement 1"),
-        "
+    complement | 0 1: nn ny yy | 2 3; 1 -2 | complement 0; complement 1
         nothing known | 0 | nothing | same
         partly known, the rule adds | 0 | yes 0 | same
         partly known, the rule refuses | 0 | yes 0 no 1 | same
@@ -221,53 +110,47 @@ fn complement(rt: HostRuntime) -> Result<(), Fail> {
         inconsistent, all known | 0 | no 0-63 yes 0 both 9 | contradiction
         the other rule, allowed | 1 | no 0-63 yes 3 | contradiction
         the other rule, refused | 1 | no 0-63 | same
-        ",
-    )
-}
 
-#[test]
-fn none(rt: HostRuntime) -> Result<(), Fail> {
-    expect_of_folder(
-        rt.alloc(),
-        sample("none; carry 0"),
-        "
+    none | 0 1: nn ny yy | 2 3; 1 -2 | none; carry 0
         nothing known | 0 | nothing | contradiction
         partly known | 0 | yes 1 | contradiction
         a build | 0 | no 0-63 | contradiction
         another build | 0 | no 0-63 yes 0 | contradiction
         inconsistent | 0 | both 9 | contradiction
         the entry behind it | 1 | yes 0 | yes 0 1
-        ",
-    )
+";
+
+#[test]
+fn each_entry(rt: HostRuntime) -> Result<(), Fail> {
+    expect_each(rt.alloc(), CASES, expect_of_folder)
 }
+
+const NUMBERS: &str = "
+    numbers | 0 / no clauses | 2 | none; carry 1; carry 0; carry 0; complement 1; carry 1; product 0 and 1
+        count | 7
+        the last | 6 | no 1 | yes 0 no 1
+        absent | 7 8 31 32 63 64 255 256 4294967295
+";
 
 #[test]
 fn numbers(rt: HostRuntime) -> Result<(), Fail> {
-    let heap = rt.alloc();
-    let bodies = clauses(heap, "0 / no clauses")?;
-    let sheets = clause_sheets(heap, bodies.as_slice(), 64)?;
-    let entries = "none; carry 1; carry 0; carry 0; complement 1; carry 1; product 0 and 1";
-    let mut rules = Folder::lay(draft(heap, 2, entries)?, sheets);
-    expect_same(rules.count(), 7, "count")?;
-    expect_replies(&mut rules, "the last | 6 | no 1 | yes 0 no 1")?;
-    expect_absent(&mut rules, &[7, 8, 31, 32, 63, 64, 255, 256, u32::MAX])
+    expect_each(rt.alloc(), NUMBERS, expect_told)
 }
+
+const CARRIED: &str = "
+    count | 32
+    the first | 0 | nothing | no 0
+    the last | 31 | nothing | no 31
+    absent | 32 33 39 40 63 64
+";
 
 // A draft carries at most 32 of the rules below.
 #[test]
 fn carried(rt: HostRuntime) -> Result<(), Fail> {
     let heap = rt.alloc();
     let bodies = no_clauses(heap, 40)?;
-    let sheets = clause_sheets(heap, bodies.as_slice(), 64)?;
+    let sheets: ClauseSheets<'_> = sheet_rules(heap, bodies.as_slice(), 64)?;
     let draft = Draft::carrying(EntrySpace::reserve(heap)?, 64, sheets.count());
     let mut rules = Folder::lay(draft, sheets);
-    expect_same(rules.count(), 32, "count")?;
-    expect_replies(
-        &mut rules,
-        "
-        the first | 0 | nothing | no 0
-        the last | 31 | nothing | no 31
-        ",
-    )?;
-    expect_absent(&mut rules, &[32, 33, 39, 40, 63, 64])
+    expect_cases(&mut rules, "carried", CARRIED)
 }

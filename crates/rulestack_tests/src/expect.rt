@@ -1,8 +1,10 @@
-// Asking rule sets in a test, and comparing what they reply.
-use crate::build::{clause_sheets, clauses, draft, known, table_sheets, tables};
+// Asking rule sets in a test, and comparing what they reply. The cases stand in tables of text: blocks with an empty line
+// between them. The first line of a block says of which rule set it is, and each further line is a case.
+use crate::build::{beside, bodies, draft, in_letters, known, sheet_rules};
 use assignment::Assignment;
 use folders::Folder;
-use ruleset::{RuleSet, SideBySide};
+use ruleset::{RuleSet, closure};
+use sheet_rules::{ClauseSheets, TableSheets};
 use std::alloc::Global;
 use std::fmt::Debug;
 use std::test::Fail;
@@ -11,87 +13,179 @@ use std::test::Fail;
 pub(crate) fn expect_same<T: PartialEq + Debug + Copy>(
     found: T,
     wanted: T,
+    about: &str,
     case: &str,
 ) -> Result<(), Fail> {
     if found != wanted {
-        return Err(Fail::new(format_args!("{case}: {found:?} is not {wanted:?}")));
+        return Err(Fail::new(format_args!("{about}, {case}: {found:?} is not {wanted:?}")));
     }
     Ok(())
 }
 
-// These words say what is known.
-pub(crate) fn expect_known(found: Assignment, words: &str, case: &str) -> Result<(), Fail> {
-    let wanted = known(words)?;
-    expect_same(found.yes_mask(), wanted.yes_mask(), case)?;
-    expect_same(found.no_mask(), wanted.no_mask(), case)
+// The four parts of a line with `|` between them.
+pub(crate) fn parts(line: &str) -> Result<(&str, &str, &str, &str), Fail> {
+    let (first, rest) = line.split_once('|').ok_or("only one part")?;
+    let (second, rest) = rest.split_once('|').ok_or("only two parts")?;
+    let (third, fourth) = rest.split_once('|').ok_or("only three parts")?;
+    Ok((first.trim(), second.trim(), third.trim(), fourth.trim()))
 }
 
-// Each line is a case of four parts with `|` between them: what it is about, a rule, a question and the reply. A reply
-// `same` is the question.
-pub(crate) fn expect_replies<R: RuleSet>(rules: &mut R, cases: &str) -> Result<(), Fail> {
-    for case in cases.trim().lines() {
-        let (about, rest) = case.split_once('|').ok_or("no rule")?;
-        let (rule, rest) = rest.split_once('|').ok_or("no question")?;
-        let (question, reply) = rest.split_once('|').ok_or("no reply")?;
-        let wanted = if reply.trim() == "same" {
-            question
-        } else {
-            reply
-        };
-        let found = rules.propagate(rule.trim().parse::<u32>()?, known(question)?);
-        expect_known(found, wanted, about.trim())?;
+// What is expected at each block of a table: of its first line, and of those behind it.
+pub(crate) fn expect_each<F: Fn(Global, &str, &str) -> Result<(), Fail>>(
+    heap: Global,
+    table: &str,
+    expect: F,
+) -> Result<(), Fail>
+    requires { F.IsAlwaysCallable expect }
+{
+    for block in table.split("\n\n") {
+        let block = block.trim();
+        let (head, cases) = block.split_once('\n').unwrap_or((block, ""));
+        expect(heap, head, cases)?;
     }
     Ok(())
 }
 
-// Rules with these numbers are not there, whatever is asked.
-pub(crate) fn expect_absent<R: RuleSet>(rules: &mut R, numbers: &[u32]) -> Result<(), Fail> {
-    for rule in numbers {
-        for question in [
-            "nothing",
-            "yes 0 no 1-63",
-            "no 0-63",
-            "both 5",
-            "contradiction",
-        ] {
-            let found = rules.propagate(*rule, known(question)?);
-            expect_known(found, "contradiction", question)?;
+// A question with the reply that is wanted.
+#[derive(Clone, Copy)]
+pub(crate) struct Case<'a> {
+    pub(crate) about: &'a str,
+    pub(crate) rule: &'a str,
+    pub(crate) question: Assignment,
+    pub(crate) wanted: Assignment,
+}
+
+// The case in a line of four parts: what it is about, a rule, a question and the reply. A reply `same` is the question.
+pub(crate) fn case_of(line: &str) -> Result<Case<'_>, Fail> {
+    let (about, rule, question, reply) = parts(line)?;
+    let question = known(question)?;
+    let wanted = if reply == "same" {
+        question
+    } else {
+        known(reply)?
+    };
+    Ok(Case {
+        about,
+        rule,
+        question,
+        wanted,
+    })
+}
+
+// A rule `closure of 0` is asked until it adds nothing.
+fn expect_case<R: RuleSet>(rules: &mut R, about: &str, line: &str) -> Result<(), Fail> {
+    let case = case_of(line)?;
+    let found = match case.rule.strip_prefix("closure of ") {
+        Some(rule) => closure(rules, rule.parse::<u32>()?, case.question),
+        None => rules.propagate(case.rule.parse::<u32>()?, case.question),
+    };
+    expect_same(found, case.wanted, about, case.about)
+}
+
+const QUESTIONS: [&str; 5] = [
+    "nothing",
+    "yes 0 no 1-63",
+    "no 0-63",
+    "both 5",
+    "contradiction",
+];
+
+// A rule with this number is not there, whatever is asked.
+fn expect_absent<R: RuleSet>(rules: &mut R, about: &str, rule: u32) -> Result<(), Fail> {
+    for question in &QUESTIONS {
+        let found = rules.propagate(rule, known(question)?);
+        expect_same(found, Assignment::contradiction(), about, question)?;
+    }
+    Ok(())
+}
+
+fn expect_all_absent<R: RuleSet>(rules: &mut R, about: &str, numbers: &str) -> Result<(), Fail> {
+    for number in numbers.split_whitespace() {
+        expect_absent(rules, about, number.parse::<u32>()?)?;
+    }
+    Ok(())
+}
+
+// The cases of a rule set, each in a line. `count | 3` says how many rules there are, and `absent | 3 64` that those with
+// these numbers are not there.
+pub(crate) fn expect_cases<R: RuleSet>(
+    rules: &mut R,
+    about: &str,
+    cases: &str,
+) -> Result<(), Fail> {
+    for line in cases.trim().lines() {
+        let (word, rest) = line.split_once('|').ok_or("no case")?;
+        match word.trim() {
+            "count" => expect_same(rules.count(), rest.trim().parse::<u32>()?, about, "count")?,
+            "absent" => expect_all_absent(rules, about, rest)?,
+            _ => expect_case(rules, about, line)?,
         }
     }
     Ok(())
 }
 
-// The replies of tables.
-pub(crate) fn expect_of_tables(heap: Global, sheets: &str, cases: &str) -> Result<(), Fail> {
-    let bodies = tables(heap, sheets)?;
-    let mut rules = table_sheets(heap, bodies.as_slice(), 64)?;
-    expect_replies(&mut rules, cases)
+// The reply to the build with these yeses: the build itself if it is among those in letters, and inconsistent if not.
+pub(crate) fn expect_build(
+    reply: Assignment,
+    yes: u64,
+    about: &str,
+    allowed: &str,
+) -> Result<(), Fail> {
+    let given_back = reply.yes_mask() == yes && reply.no_mask() == !yes;
+    let clashing = reply.is_inconsistent();
+    if given_back != is_among(yes, allowed)? || clashing == given_back {
+        return Err(Fail::new(format_args!("{about}, build {yes}: {reply:?}")));
+    }
+    Ok(())
 }
 
-// The replies of clause sheets.
-pub(crate) fn expect_of_clauses(heap: Global, sheets: &str, cases: &str) -> Result<(), Fail> {
-    let bodies = clauses(heap, sheets)?;
-    let mut rules = clause_sheets(heap, bodies.as_slice(), 64)?;
-    expect_replies(&mut rules, cases)
+fn is_among(build: u64, allowed: &str) -> Result<bool, Fail> {
+    for letters in allowed.split_whitespace() {
+        if in_letters(letters)?.yes_mask() == build {
+            return Ok(true);
+        }
+    }
+    Ok(false)
 }
 
-// The sheets and the entries of a folder over them.
-#[derive(Clone, Copy)]
-pub(crate) struct Laid<'a> {
-    pub(crate) tables: &'a str,
-    pub(crate) clauses: &'a str,
-    pub(crate) entries: &'a str,
+// The head: what it is about, how many options the file has, how many sheets, and the tables.
+pub(crate) fn expect_of_tables(heap: Global, head: &str, cases: &str) -> Result<(), Fail> {
+    let (about, options, count, sheets) = parts(head)?;
+    let bodies = bodies(heap, sheets)?;
+    let mut rules: TableSheets<'_> = sheet_rules(heap, bodies.as_slice(), options.parse::<u32>()?)?;
+    expect_same(rules.count(), count.parse::<u32>()?, about, "count")?;
+    expect_cases(&mut rules, about, cases)
 }
 
-// The replies of a folder over the tables with the clause sheets beside them.
-pub(crate) fn expect_of_folder(heap: Global, laid: Laid, cases: &str) -> Result<(), Fail> {
-    let first = tables(heap, laid.tables)?;
-    let second = clauses(heap, laid.clauses)?;
-    let sheets = SideBySide::new(
-        table_sheets(heap, first.as_slice(), 64)?,
-        clause_sheets(heap, second.as_slice(), 64)?,
-    );
+// The head: what it is about, how many options the file has, how many sheets, and the clause sheets.
+pub(crate) fn expect_of_clauses(heap: Global, head: &str, cases: &str) -> Result<(), Fail> {
+    let (about, options, count, sheets) = parts(head)?;
+    let bodies = bodies(heap, sheets)?;
+    let mut rules: ClauseSheets<'_> = sheet_rules(
+        heap,
+        bodies.as_slice(),
+        options.parse::<u32>()?,
+    )?;
+    expect_same(rules.count(), count.parse::<u32>()?, about, "count")?;
+    expect_cases(&mut rules, about, cases)
+}
+
+// The head: what it is about, tables, clause sheets, and the entries of a folder over the ones beside the others.
+pub(crate) fn expect_of_folder(heap: Global, head: &str, cases: &str) -> Result<(), Fail> {
+    let (about, tables, clauses, entries) = parts(head)?;
+    let first = bodies(heap, tables)?;
+    let second = bodies(heap, clauses)?;
+    let sheets = beside(heap, first.as_slice(), second.as_slice())?;
     let below = sheets.count();
-    let mut rules = Folder::lay(draft(heap, below, laid.entries)?, sheets);
-    expect_replies(&mut rules, cases)
+    let mut rules = Folder::lay(draft(heap, below, entries)?, sheets);
+    expect_cases(&mut rules, about, cases)
+}
+
+// The head: what it is about, clause sheets, how many rules a folder over them is told of, and its entries.
+pub(crate) fn expect_told(heap: Global, head: &str, cases: &str) -> Result<(), Fail> {
+    let (about, clauses, told, entries) = parts(head)?;
+    let bodies = bodies(heap, clauses)?;
+    let sheets: ClauseSheets<'_> = sheet_rules(heap, bodies.as_slice(), 64)?;
+    let mut rules = Folder::lay(draft(heap, told.parse::<u32>()?, entries)?, sheets);
+    expect_cases(&mut rules, about, cases)
 }

@@ -1,10 +1,12 @@
 // Folders over a rule set of another kind, which keeps notes and leaves an inconsistent question as it is. If option 0
 // is yes, its rule 0 adds that 1 is yes; if option 2 is yes, its rule 1 adds that 1 is yes and 3 no.
 use crate::build::{draft, known};
-use crate::expect::{expect_absent, expect_known, expect_replies, expect_same};
+use crate::closures::{Search, expect_searches};
+use crate::expect::{expect_cases, expect_each, expect_same};
 use crate::steps::{Notes, Step, Steps};
+use assignment::Assignment;
 use folders::Folder;
-use ruleset::{RuleSet, closure, finds_build};
+use ruleset::RuleSet;
 use std::alloc::Global;
 use std::cell::Cell;
 use std::test::Fail;
@@ -16,54 +18,43 @@ fn no_notes() -> Notes {
     }
 }
 
-fn steps(copy: &Cell<Notes>) -> Result<Steps<'_>, Fail> {
-    Ok(Steps {
+fn steps(copy: &Cell<Notes>) -> Steps<'_> {
+    Steps {
         first: Step {
             option: 0,
-            added: known("yes 1")?,
+            added: Assignment::new(0b10, 0),
         },
         second: Step {
             option: 2,
-            added: known("yes 1 no 3")?,
+            added: Assignment::new(0b10, 0b1000),
         },
         notes: no_notes(),
         copy,
-    })
+    }
 }
+
+const ON_ITS_OWN: &str = "
+    count | 2
+    nothing known | 0 | nothing | same
+    the first | 0 | yes 0 2 | yes 0 1 2
+    the second | 1 | yes 0 2 | yes 0 1 2 no 3
+    inconsistent elsewhere | 0 | both 9 | same
+    inconsistent elsewhere, and it adds | 0 | yes 0 both 9 | yes 0 1 both 9
+    inconsistent at its option | 1 | both 2 | yes 1 no 3 both 2
+    a build refused | 0 | no 0-63 yes 0 | no 0-63 yes 0 both 1
+    absent | 2 3 63 64 4294967295
+";
 
 #[test]
 fn on_its_own() -> Result<(), Fail> {
     let notes = Cell::new(no_notes());
-    let mut rules = steps(&notes)?;
-    expect_same(rules.count(), 2, "count")?;
-    expect_replies(
-        &mut rules,
-        "
-        nothing known | 0 | nothing | same
-        the first | 0 | yes 0 2 | yes 0 1 2
-        the second | 1 | yes 0 2 | yes 0 1 2 no 3
-        inconsistent elsewhere | 0 | both 9 | same
-        inconsistent elsewhere, and it adds | 0 | yes 0 both 9 | yes 0 1 both 9
-        inconsistent at its option | 1 | both 2 | yes 1 no 3 both 2
-        a build refused | 0 | no 0-63 yes 0 | no 0-63 yes 0 both 1
-        ",
-    )?;
-    expect_absent(&mut rules, &[2, 3, 63, 64, u32::MAX])
+    expect_cases(&mut steps(&notes), "on its own", ON_ITS_OWN)
 }
 
-// The replies of a folder with these entries over the steps.
-fn expect_over(heap: Global, entries: &str, cases: &str) -> Result<(), Fail> {
-    let notes = Cell::new(no_notes());
-    let mut rules = Folder::lay(draft(heap, 2, entries)?, steps(&notes)?);
-    expect_replies(&mut rules, cases)
-}
-
-#[test]
-fn inconsistent_questions(rt: HostRuntime) -> Result<(), Fail> {
-    expect_over(
-        rt.alloc(),
-        "carry 0; product 0 and 1; either 0 or 1; selection 0 left 4 right 8 width 1; projection 0 hides 9; complement 0; none",
-        "
+// Entries over the steps.
+const OVER_STEPS: &str = "
+    inconsistent questions | carry 0; product 0 and 1; either 0 or 1; selection 0 left 4 right 8 width 1; \
+            projection 0 hides 9; complement 0; none
         carry | 0 | both 9 | same
         carry, and it adds | 0 | yes 0 both 9 | yes 0 1 both 9
         product | 1 | both 9 | same
@@ -77,16 +68,9 @@ fn inconsistent_questions(rt: HostRuntime) -> Result<(), Fail> {
         complement | 5 | both 9 | contradiction
         complement, nothing else unknown | 5 | no 0-63 yes 0 both 9 | contradiction
         none | 6 | both 9 | contradiction
-        ",
-    )
-}
 
-#[test]
-fn other_questions(rt: HostRuntime) -> Result<(), Fail> {
-    expect_over(
-        rt.alloc(),
-        "carry 1; product 0 and 1; either 0 or 1; selection 0 left 1 right 8 width 1; projection 0 hides 1; projection 0 hides; complement 0",
-        "
+    other questions | carry 1; product 0 and 1; either 0 or 1; selection 0 left 1 right 8 width 1; \
+            projection 0 hides 1; projection 0 hides; complement 0
         carry | 0 | yes 2 | yes 1 2 no 3
         carry, a build refused | 0 | no 0-63 yes 2 | no 0-63 yes 2 both 1
         product | 1 | yes 0 2 | yes 0 1 2 no 3
@@ -106,95 +90,100 @@ fn other_questions(rt: HostRuntime) -> Result<(), Fail> {
         complement, a build refused | 6 | no 0-63 yes 0 | same
         complement, a build allowed | 6 | no 0-63 | contradiction
         complement, unfinished | 6 | yes 0 no 1 | same
-        ",
-    )
+";
+
+fn expect_over_steps(heap: Global, head: &str, cases: &str) -> Result<(), Fail> {
+    let (about, entries) = head.split_once('|').ok_or("no entries")?;
+    let notes = Cell::new(no_notes());
+    let mut rules = Folder::lay(draft(heap, 2, entries)?, steps(&notes));
+    expect_cases(&mut rules, about.trim(), cases)
 }
 
-// How many questions the rules below have noted once an entry is asked this.
+#[test]
+fn folders_over_steps(rt: HostRuntime) -> Result<(), Fail> {
+    expect_each(rt.alloc(), OVER_STEPS, expect_over_steps)
+}
+
+// An entry, what it is asked, and how many questions the rules below have noted then.
+const NOTED: [(&str, &str, u64); 7] = [
+    ("carry 0", "both 9", 1),
+    ("product 0 and 1", "yes 0", 2),
+    ("either 0 or 1", "yes 0", 2),
+    ("selection 0 left 4 right 8 width 1", "yes 0", 1),
+    ("projection 0 hides 9", "yes 0", 1),
+    ("complement 0", "no 0-63", 1),
+    ("none", "yes 0", 0),
+];
+
 fn noted(heap: Global, entry: &str, question: &str) -> Result<u64, Fail> {
     let notes = Cell::new(no_notes());
-    let mut rules = Folder::lay(draft(heap, 2, entry)?, steps(&notes)?);
+    let mut rules = Folder::lay(draft(heap, 2, entry)?, steps(&notes));
     let _reply = rules.propagate(0, known(question)?);
     Ok(notes.get().asked)
 }
 
 #[test]
 fn questions_noted(rt: HostRuntime) -> Result<(), Fail> {
-    let heap = rt.alloc();
-    expect_same(noted(heap, "carry 0", "both 9")?, 1, "carry")?;
-    expect_same(noted(heap, "product 0 and 1", "yes 0")?, 2, "product")?;
-    expect_same(noted(heap, "either 0 or 1", "yes 0")?, 2, "either")?;
-    let selection = "selection 0 left 4 right 8 width 1";
-    expect_same(noted(heap, selection, "yes 0")?, 1, "selection")?;
-    let projection = "projection 0 hides 9";
-    expect_same(
-        noted(heap, projection, "yes 0")?,
-        1,
-        "unfinished projection",
-    )?;
-    expect_same(noted(heap, "complement 0", "no 0-63")?, 1, "complement")?;
-    expect_same(noted(heap, "none", "yes 0")?, 0, "none")
+    for (entry, question, wanted) in &NOTED {
+        let found = noted(rt.alloc(), entry, question)?;
+        expect_same(found, *wanted, "questions noted", entry)?;
+    }
+    Ok(())
 }
+
+const ASKED_TWICE: &str = "
+    the first time | 0 | yes 0 both 9 | yes 0 1 both 9
+    another question | 1 | yes 2 | yes 1 2 no 3
+    the second time | 0 | yes 0 both 9 | yes 0 1 both 9
+    the third time | 0 | yes 0 both 9 | yes 0 1 both 9
+    count | 2
+";
 
 #[test]
 fn asked_twice(rt: HostRuntime) -> Result<(), Fail> {
-    let heap = rt.alloc();
     let notes = Cell::new(no_notes());
-    let mut rules = Folder::lay(draft(heap, 2, "carry 0; carry 1")?, steps(&notes)?);
-    expect_replies(
-        &mut rules,
-        "
-        the first time | 0 | yes 0 both 9 | yes 0 1 both 9
-        another question | 1 | yes 2 | yes 1 2 no 3
-        the second time | 0 | yes 0 both 9 | yes 0 1 both 9
-        the third time | 0 | yes 0 both 9 | yes 0 1 both 9
-        ",
-    )?;
-    expect_same(rules.count(), 2, "count")?;
-    expect_same(notes.get().asked, 4, "questions noted")?;
-    let (question, reply) = notes.get().last.ok_or("no question noted")?;
-    expect_known(question, "yes 0 both 9", "last question")?;
-    expect_known(reply, "yes 0 1 both 9", "last reply")
+    let mut rules = Folder::lay(draft(rt.alloc(), 2, "carry 0; carry 1")?, steps(&notes));
+    expect_cases(&mut rules, "asked twice", ASKED_TWICE)?;
+    let Notes { asked, last } = notes.get();
+    expect_same(asked, 4, "asked twice", "questions noted")?;
+    let wanted = (known("yes 0 both 9")?, known("yes 0 1 both 9")?);
+    expect_same(last, Some(wanted), "asked twice", "last question and reply")
 }
+
+const ADDED: &str = "something added | closure of 0 | yes 0 | yes 0 1";
+
+const CLOSED: &str = "
+    nothing added | closure of 0 | yes 2 | same
+    inconsistent | closure of 0 | both 9 | contradiction
+    inconsistent at one option | closure of 0 | yes 0 no 1 | contradiction
+    no such rule | closure of 2 | nothing | contradiction
+";
 
 #[test]
 fn closed() -> Result<(), Fail> {
     let notes = Cell::new(no_notes());
-    let mut rules = steps(&notes)?;
-    let added = closure(&mut rules, 0, known("yes 0")?);
-    expect_known(added, "yes 0 1", "something added")?;
-    expect_same(notes.get().asked, 2, "once more after it has added")?;
-    let same = closure(&mut rules, 0, known("yes 2")?);
-    expect_known(same, "yes 2", "nothing added")?;
-    let dead = closure(&mut rules, 0, known("both 9")?);
-    expect_known(dead, "contradiction", "inconsistent")?;
-    let refused = closure(&mut rules, 0, known("yes 0 no 1")?);
-    expect_known(refused, "contradiction", "inconsistent at one option")?;
-    let absent = closure(&mut rules, 2, known("nothing")?);
-    expect_known(absent, "contradiction", "no such rule")
+    let mut rules = steps(&notes);
+    expect_cases(&mut rules, "closed", ADDED)?;
+    expect_same(
+        notes.get().asked,
+        2,
+        "closed",
+        "once more after it has added",
+    )?;
+    expect_cases(&mut rules, "closed", CLOSED)
 }
+
+const SEARCHES: [Search; 6] = [
+    ("1 is free", 0, &[1], "yes 0 no 2-63", true),
+    ("1 is no", 0, &[1], "yes 0 no 1-63", false),
+    ("0 is no", 0, &[0, 2], "no 1 3-63", true),
+    ("2 is no", 1, &[0, 2], "yes 1 3 no 4-63", true),
+    ("inconsistent", 0, &[0], "both 9", false),
+    ("no such rule", 2, &[1], "yes 0 no 2-63", false),
+];
 
 #[test]
 fn searched() -> Result<(), Fail> {
     let notes = Cell::new(no_notes());
-    let mut rules = steps(&notes)?;
-    let free = known("yes 0 no 2-63")?;
-    expect_same(finds_build(&mut rules, 0, &[1], free), true, "1 is free")?;
-    let refused = known("yes 0 no 1-63")?;
-    expect_same(finds_build(&mut rules, 0, &[1], refused), false, "1 is no")?;
-    let either = known("no 1 3-63")?;
-    expect_same(finds_build(&mut rules, 0, &[0, 2], either), true, "0 is no")?;
-    let two = known("yes 1 3 no 4-63")?;
-    expect_same(finds_build(&mut rules, 1, &[0, 2], two), true, "2 is no")?;
-    let dead = known("both 9")?;
-    expect_same(
-        finds_build(&mut rules, 0, &[0], dead),
-        false,
-        "inconsistent",
-    )?;
-    expect_same(
-        finds_build(&mut rules, 2, &[1], free),
-        false,
-        "no such rule",
-    )
+    expect_searches(&mut steps(&notes), &SEARCHES)
 }

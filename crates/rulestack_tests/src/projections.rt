@@ -1,21 +1,14 @@
 // Replies of projections.
-use crate::build::{TABLE, clause_sheets, clauses, draft};
-use crate::expect::{Laid, expect_of_folder, expect_replies};
+use crate::build::{bodies, draft, sheet_rules};
+use crate::expect::{expect_cases, expect_each, expect_of_folder, parts};
 use folders::Folder;
+use sheet_rules::ClauseSheets;
 use std::alloc::Global;
 use std::test::Fail;
 
-#[test]
-fn over_a_table(rt: HostRuntime) -> Result<(), Fail> {
-    let laid = Laid {
-        tables: TABLE,
-        clauses: "",
-        entries: "projection 0 hides 0; projection 0 hides 1; projection 0 hides 0-1 7",
-    };
-    expect_of_folder(
-        rt.alloc(),
-        laid,
-        "
+// In the search, no value of 0 and 1 meets the first sheet's four clauses, and yet each of them has two values left.
+const OVER_SHEETS: &str = "
+    over a table | 0 1: nn ny yy | | projection 0 hides 0; projection 0 hides 1; projection 0 hides 0-1 7
         nothing known | 0 | nothing | same
         what is added there is dropped | 0 | no 1 | same
         a hidden option is not told | 0 | yes 0 | same
@@ -33,21 +26,8 @@ fn over_a_table(rt: HostRuntime) -> Result<(), Fail> {
         inconsistent at a hidden option | 0 | both 0 | contradiction
         inconsistent at a hidden option, all known | 0 | no 1-63 both 0 | contradiction
         inconsistent at a shown option | 0 | both 9 | contradiction
-        ",
-    )
-}
 
-#[test]
-fn shown_options_get_what_is_added(rt: HostRuntime) -> Result<(), Fail> {
-    let laid = Laid {
-        tables: "0 1 2: nny yyy / 0:",
-        clauses: "",
-        entries: "projection 0 hides 0; projection 1 hides 3 6",
-    };
-    expect_of_folder(
-        rt.alloc(),
-        laid,
-        "
+    shown options get what is added | 0 1 2: nny yyy / 0: | | projection 0 hides 0; projection 1 hides 3 6
         nothing known | 0 | nothing | yes 2
         a shown option known | 0 | yes 1 | yes 1 2
         a wrong hidden option known | 0 | yes 1 no 0 | yes 1 2 no 0
@@ -58,21 +38,9 @@ fn shown_options_get_what_is_added(rt: HostRuntime) -> Result<(), Fail> {
         a table without rows, hidden known | 1 | yes 3 0 | both 0-63 yes 3 unknown 6
         a table without rows, one unknown | 1 | no 0-62 | both 0-63 no 3 6
         a table without rows, all shown known | 1 | no 0-63 unknown 3 6 | contradiction
-        ",
-    )
-}
 
-#[test]
-fn inconsistent_at_hidden_options_only(rt: HostRuntime) -> Result<(), Fail> {
-    let laid = Laid {
-        tables: "",
-        clauses: "5; -5 / 0 5; 0 -5",
-        entries: "projection 0 hides 5; projection 0 hides 6; projection 1 hides 5; projection 0 hides",
-    };
-    expect_of_folder(
-        rt.alloc(),
-        laid,
-        "
+    inconsistent at hidden options only | | 5; -5 / 0 5; 0 -5 | projection 0 hides 5; projection 0 hides 6; \
+            projection 1 hides 5; projection 0 hides
         it is dropped | 0 | nothing | same
         it is dropped, some known | 0 | yes 2 no 3 | same
         the hidden option is put back | 0 | yes 5 no 3 | same
@@ -85,22 +53,9 @@ fn inconsistent_at_hidden_options_only(rt: HostRuntime) -> Result<(), Fail> {
         once 0 is no, all shown known | 2 | no 0-63 unknown 5 | contradiction
         while 0 is yes, all shown known | 2 | no 1-63 unknown 5 yes 0 | same
         nothing is hidden | 3 | yes 6 | yes 6 both 5
-        ",
-    )
-}
 
-// No value of 0 and 1 meets the four clauses, and yet each of them has two values left.
-#[test]
-fn the_search(rt: HostRuntime) -> Result<(), Fail> {
-    let laid = Laid {
-        tables: "",
-        clauses: "0 1; 0 -1; -0 1; -0 -1 / 0 1; 0 -1; -0 1 / 0 1 9; 0 -1; -0 1; -0 -1",
-        entries: "projection 0 hides 0-1; projection 1 hides 0-1; projection 2 hides 0-1",
-    };
-    expect_of_folder(
-        rt.alloc(),
-        laid,
-        "
+    the search | | 0 1; 0 -1; -0 1; -0 -1 / 0 1; 0 -1; -0 1 / 0 1 9; 0 -1; -0 1; -0 -1 | projection 0 hides 0-1; \
+            projection 1 hides 0-1; projection 2 hides 0-1
         nothing known | 0 | nothing | same
         one shown option unknown | 0 | no 2-62 | same
         another shown option unknown | 0 | yes 3-63 | same
@@ -111,54 +66,27 @@ fn the_search(rt: HostRuntime) -> Result<(), Fail> {
         one filling fits a build with another | 1 | no 0-63 | same
         a shown option lets one fit | 2 | yes 2-63 | same
         a shown option lets none fit | 2 | yes 2-63 no 9 | contradiction
-        ",
-    )
-}
 
-#[test]
-fn nothing_hidden(rt: HostRuntime) -> Result<(), Fail> {
-    let laid = Laid {
-        tables: TABLE,
-        clauses: "",
-        entries: "projection 0 hides",
-    };
-    expect_of_folder(
-        rt.alloc(),
-        laid,
-        "
+    nothing hidden | 0 1: nn ny yy | | projection 0 hides
         nothing known | 0 | nothing | same
         partly known | 0 | yes 0 | yes 0 1
         no row | 0 | yes 0 no 1 | contradiction
         a build allowed | 0 | no 0-63 yes 1 | same
         a build refused | 0 | no 0-63 yes 0 | contradiction
         inconsistent | 0 | both 0 | contradiction
-        ",
-    )
-}
-
-// A folder over a folder over clause sheets.
-fn expect_of_two(
-    heap: Global,
-    sheets: &str,
-    lower: &str,
-    upper: &str,
-    cases: &str,
-) -> Result<(), Fail> {
-    let bodies = clauses(heap, sheets)?;
-    let sheets = clause_sheets(heap, bodies.as_slice(), 64)?;
-    let below = Folder::lay(draft(heap, 32, lower)?, sheets);
-    let mut rules = Folder::lay(draft(heap, 32, upper)?, below);
-    expect_replies(&mut rules, cases)
-}
+";
 
 #[test]
-fn two_stacked(rt: HostRuntime) -> Result<(), Fail> {
-    expect_of_two(
-        rt.alloc(),
-        "0 2; -0 1 / 0 2; -0 2 / 0 1 2; -0 1 3; -1 2",
-        "projection 0 hides 0; projection 1 hides 0; projection 2 hides 0",
-        "projection 0 hides 1; projection 1 hides 1; projection 2 hides 1",
-        "
+fn over_sheets(rt: HostRuntime) -> Result<(), Fail> {
+    expect_each(rt.alloc(), OVER_SHEETS, expect_of_folder)
+}
+
+// Behind the clause sheets stand the entries of the folder over them, and those of the folder over that one. A selection
+// refuses a build at two options only; a projection that hides nothing by the contradiction. A complement replies to builds
+// only, so each filling of sixteen hidden options has to be tried: yes first, and the one in which all are no comes last.
+const OVER_A_FOLDER: &str = "
+    two stacked | 0 2; -0 1 / 0 2; -0 2 / 0 1 2; -0 1 3; -1 2 | projection 0 hides 0; projection 1 hides 0; \
+            projection 2 hides 0 | projection 0 hides 1; projection 1 hides 1; projection 2 hides 1
         fillings of both make up for all | 0 | no 0-63 | same
         no fillings of both can | 1 | no 0-63 | contradiction
         none are needed | 1 | no 0-63 yes 2 | same
@@ -171,19 +99,9 @@ fn two_stacked(rt: HostRuntime) -> Result<(), Fail> {
         the upper drops what the lower adds | 2 | no 2 | same
         inconsistent at the upper's hidden option | 0 | both 1 | contradiction
         inconsistent at the lower's hidden option | 0 | both 0 | contradiction
-        ",
-    )
-}
 
-// A selection refuses a build at two options only; a projection that hides nothing by the contradiction.
-#[test]
-fn nothing_hidden_over_a_selection(rt: HostRuntime) -> Result<(), Fail> {
-    expect_of_two(
-        rt.alloc(),
-        "no clauses",
-        "selection 0 left 4 right 8 width 1",
-        "projection 0 hides; carry 0; projection 0 hides 8; projection 0 hides 4 8",
-        "
+    nothing hidden over a selection | no clauses | selection 0 left 4 right 8 width 1 | projection 0 hides; carry 0; \
+            projection 0 hides 8; projection 0 hides 4 8
         the projection | 0 | no 0-63 yes 4 | contradiction
         the carry | 1 | no 0-63 yes 4 | no 0-63 both 4 8
         the projection, allowed | 0 | no 0-63 | same
@@ -191,20 +109,9 @@ fn nothing_hidden_over_a_selection(rt: HostRuntime) -> Result<(), Fail> {
         8 hidden | 2 | no 0-63 yes 4 | same
         8 hidden, unfinished | 2 | yes 4 no 8 | same
         both hidden | 3 | no 0-63 yes 4 | same
-        ",
-    )
-}
 
-// The complement replies to builds only, so each filling of the hidden options has to be tried: yes first, and the one in
-// which all are no comes last.
-#[test]
-fn sixteen_hidden(rt: HostRuntime) -> Result<(), Fail> {
-    expect_of_two(
-        rt.alloc(),
-        "0 1 2 3 4 5 6 7 8 9 10 11 12 13 14 15 / no clauses",
-        "complement 0; complement 1",
-        "projection 0 hides 0-15; projection 1 hides 0-15; projection 0 hides 1-15",
-        "
+    sixteen hidden | 0 1 2 3 4 5 6 7 8 9 10 11 12 13 14 15 / no clauses | complement 0; complement 1 | \
+            projection 0 hides 0-15; projection 1 hides 0-15; projection 0 hides 1-15
         only the last filling fits | 0 | no 16-63 | same
         only the last filling fits a build | 0 | yes 0-63 | same
         no filling fits | 1 | no 16-63 | contradiction
@@ -212,6 +119,18 @@ fn sixteen_hidden(rt: HostRuntime) -> Result<(), Fail> {
         one shown option unknown | 1 | no 16-62 | same
         a shown option rules all out | 2 | yes 0 no 16-63 | contradiction
         fifteen hidden, the last fits | 2 | no 0 16-63 | same
-        ",
-    )
+";
+
+fn expect_stacked(heap: Global, head: &str, cases: &str) -> Result<(), Fail> {
+    let (about, clauses, lower, upper) = parts(head)?;
+    let bodies = bodies(heap, clauses)?;
+    let sheets: ClauseSheets<'_> = sheet_rules(heap, bodies.as_slice(), 64)?;
+    let below = Folder::lay(draft(heap, 32, lower)?, sheets);
+    let mut rules = Folder::lay(draft(heap, 32, upper)?, below);
+    expect_cases(&mut rules, about, cases)
+}
+
+#[test]
+fn over_a_folder(rt: HostRuntime) -> Result<(), Fail> {
+    expect_each(rt.alloc(), OVER_A_FOLDER, expect_stacked)
 }

@@ -1,19 +1,10 @@
 // The worked examples of replies in docs/PROOFS.md, run.
-use crate::build::{CLAUSES, TABLE};
-use crate::expect::{Laid, expect_of_folder};
+use crate::expect::{expect_each, expect_of_folder};
 use std::test::Fail;
 
-#[test]
-fn worked_examples(rt: HostRuntime) -> Result<(), Fail> {
-    let laid = Laid {
-        tables: TABLE,
-        clauses: "2 3; 1 -2 / 0; -0 / 1; -1",
-        entries: "carry 0; carry 1; either 2 or 3; complement 0; projection 0 hides 0; carry 2; carry 3",
-    };
-    expect_of_folder(
-        rt.alloc(),
-        laid,
-        "
+const CASES: &str = "
+    each kind of rule | 0 1: nn ny yy | 2 3; 1 -2 / 0; -0 / 1; -1 | carry 0; carry 1; either 2 or 3; complement 0; \
+            projection 0 hides 0; carry 2; carry 3
         the table adds | 0 | yes 0 | yes 0 1
         the table contradicts | 0 | yes 0 no 1 | contradiction
         the clauses add | 1 | no 1 | no 1 2
@@ -22,12 +13,12 @@ fn worked_examples(rt: HostRuntime) -> Result<(), Fail> {
         a projection keeps | 4 | yes 0 no 1-63 | same
         what the first of the either replies | 5 | nothing | both 0
         what the second of the either replies | 6 | nothing | both 1
-        ",
-    )?;
-    let product = Laid {
-        tables: TABLE,
-        clauses: CLAUSES,
-        entries: "product 0 and 1",
-    };
-    expect_of_folder(rt.alloc(), product, "both at once | 0 | no 1 | no 0 1 2")
+
+    product | 0 1: nn ny yy | 2 3; 1 -2 | product 0 and 1
+        both at once | 0 | no 1 | no 0 1 2
+";
+
+#[test]
+fn worked_examples(rt: HostRuntime) -> Result<(), Fail> {
+    expect_each(rt.alloc(), CASES, expect_of_folder)
 }
