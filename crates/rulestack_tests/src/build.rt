@@ -8,11 +8,6 @@ use sheets::Sheet;
 use std::alloc::Global;
 use std::test::Fail;
 
-// The table and the clauses of the example of docs/FORMAT.md.
-pub(crate) const TABLE: &str = "0 1: nn ny yy";
-
-pub(crate) const CLAUSES: &str = "2 3; 1 -2";
-
 // What is known, as `yes 0 2 no 3-7 both 8`: the options behind each word have its value, and of an option that is
 // named twice the last value counts. All others are unknown. `contradiction` and `nothing` need no option.
 pub(crate) fn known(words: &str) -> Result<Assignment, Fail> {
@@ -130,13 +125,16 @@ fn add_clauses(body: &mut Vec<u8>, clauses: &str) -> Result<(), Fail> {
 fn add_list(body: &mut Vec<u8>, options: &str) -> Result<(), Fail> {
     body.push(u8::try_from(options.split_whitespace().count())?)?;
     for option in options.split_whitespace() {
-        let byte = match option.strip_prefix('-') {
-            Some(negated) => negated.parse::<u8>()? | 128,
-            None => option.parse::<u8>()?,
-        };
-        body.push(byte)?;
+        body.push(option_byte(option)?)?;
     }
     Ok(())
+}
+
+fn option_byte(option: &str) -> Result<u8, Fail> {
+    match option.strip_prefix('-') {
+        Some(negated) => Ok(negated.parse::<u8>()? | 128),
+        None => Ok(option.parse::<u8>()?),
+    }
 }
 
 // Sheets of one kind in a file with so many options.
@@ -153,15 +151,21 @@ pub(crate) fn sheet_rules<'a, S: Sheet<'a> + SheetRule>(
     Ok(SheetRules::new(sheets))
 }
 
-// Tables beside clause sheets.
-pub(crate) fn beside<'a>(
+// The first bodies as tables, beside the others as clause sheets.
+pub(crate) fn beside(
     heap: Global,
-    tables: &'a [Vec<u8>],
-    clauses: &'a [Vec<u8>],
-) -> Result<SideBySide<TableSheets<'a>, ClauseSheets<'a>>, Fail> {
-    let tables = sheet_rules(heap, tables, 64)?;
-    let clauses = sheet_rules(heap, clauses, 64)?;
+    bodies: &[Vec<u8>],
+    tables: usize,
+) -> Result<SideBySide<TableSheets<'_>, ClauseSheets<'_>>, Fail> {
+    let (first, second) = bodies.split_at_checked(tables).ok_or("too few sheets")?;
+    let tables = sheet_rules(heap, first, 64)?;
+    let clauses = sheet_rules(heap, second, 64)?;
     Ok(SideBySide::new(tables, clauses))
+}
+
+// How many tables are among the sheets in a text.
+pub(crate) fn tables_in(text: &str) -> usize {
+    text.split(':').count().saturating_sub(1)
 }
 
 // A draft with these entries, told 64 options and so many rules below.

@@ -3,7 +3,7 @@ use crate::expect::{expect_each, expect_of_clauses};
 use std::test::Fail;
 
 const CASES: &str = "
-    values left | 64 | 1 | 2 3; 1 -2
+    values left | 64 | 2 3; 1 -2
         nothing known | 0 | nothing | same
         one left in the second clause only | 0 | no 1 | no 1 2
         one left in both, one of them known | 0 | no 1 2 | no 1 2 yes 3
@@ -15,7 +15,7 @@ const CASES: &str = "
         inconsistent in a clause | 0 | both 2 | contradiction
         inconsistent elsewhere | 0 | both 9 | contradiction
 
-    builds | 64 | 1 | 2 3; 1 -2
+    builds | 64 | 2 3; 1 -2
         a value of each clause | 0 | no 0-63 yes 3 | same
         another value of each | 0 | no 0-63 yes 1 2 | same
         all yes | 0 | yes 0-63 | same
@@ -24,7 +24,7 @@ const CASES: &str = "
         none of the second clause, both of the first | 0 | yes 0-63 no 1 | contradiction
         one option inconsistent, else a build | 0 | yes 0-63 both 40 | contradiction
 
-    judged on the question | 64 | 7 | -2; 2 3 / 2 3; -2 / 5; -5; 7 / 1 5; 1 -5 / 4; 1 2 / 1 2; -4 / -5; 5
+    judged on the question | 64 | -2; 2 3 / 2 3; -2 / 5; -5; 7 / 1 5; 1 -5 / 4; 1 2 / 1 2; -4 / -5; 5
         what a clause before adds is no matter | 0 | nothing | no 2
         what a clause behind adds is no matter | 1 | nothing | no 2
         asked again with the reply | 0 | no 2 | no 2 yes 3
@@ -38,7 +38,7 @@ const CASES: &str = "
         a lost clause behind one that adds | 4 | no 1 2 | contradiction
         a lost clause before one that adds | 5 | no 1 2 | contradiction
 
-    shapes | 64 | 6 | no clauses / 63 / -0 / 0 1 2 3 4 5 6 7 8 9 10 11 12 13 14 15 / 1; 1; 1 / 0 1; 0 1
+    shapes | 64 | no clauses / 63 / -0 / 0 1 2 3 4 5 6 7 8 9 10 11 12 13 14 15 / 1; 1; 1 / 0 1; 0 1
         no clauses, nothing known | 0 | nothing | same
         no clauses, something known | 0 | yes 0 no 1 | same
         no clauses, a build | 0 | yes 5 no 0-4 6-63 | same
@@ -53,17 +53,19 @@ const CASES: &str = "
         the same clause three times | 4 | nothing | yes 1
         the same clause twice | 5 | no 1 | no 1 yes 0
 
-    options past the file | 4 | 1 | 2 3; 1 -2
+    options past the file | 4 | 2 3; 1 -2
         known past the options | 0 | no 1 4 63 yes 50 | no 1 2 4 63 yes 50
         inconsistent past the options | 0 | both 4 | contradiction
         yes past the options in a build | 0 | yes 3-63 no 0-2 | same
 
-    numbers | 64 | 2 | 0 / no clauses
+    numbers | 64 | 0 / no clauses
+        count | 2
         the first | 0 | nothing | yes 0
         the second | 1 | nothing | nothing
         absent | 2 3 31 32 63 64 256 4294967295
 
-    no clause sheets | 64 | 0 |
+    no clause sheets | 64 |
+        count | 0
         absent | 0 1 63 64 4294967295
 ";
 

@@ -7,7 +7,7 @@ use std::test::Fail;
 
 // In the longest chain, for each option but the last: if it is yes, then so is the next one.
 const OF_CLAUSES: &str = "
-    clause sheets closed | 64 | 4 | 2 3; 1 -2 / -2; 2 3; -3 4; -4 5 / 5; -5 / 0 1; 0 -1; -0 1; -0 -1
+    clause sheets closed | 64 | 2 3; 1 -2 / -2; 2 3; -3 4; -4 5 / 5; -5 / 0 1; 0 -1; -0 1; -0 -1
         nothing to add | closure of 0 | nothing | same
         two rounds | closure of 0 | no 1 | no 1 2 yes 3
         a build allowed | closure of 0 | no 0-63 yes 3 | same
@@ -25,11 +25,11 @@ const OF_CLAUSES: &str = "
         a rule that is not there | closure of 4 | nothing | contradiction
         a rule that is not there, a build | closure of 4 | no 0-63 | contradiction
 
-    longest chain | 64 | 1 | -0 1; -1 2; -2 3; -3 4; -4 5; -5 6; -6 7; -7 8; -8 9; -9 10; -10 11; -11 12; -12 13; \
-            -13 14; -14 15; -15 16; -16 17; -17 18; -18 19; -19 20; -20 21; -21 22; -22 23; -23 24; -24 25; -25 26; \
-            -26 27; -27 28; -28 29; -29 30; -30 31; -31 32; -32 33; -33 34; -34 35; -35 36; -36 37; -37 38; -38 39; \
-            -39 40; -40 41; -41 42; -42 43; -43 44; -44 45; -45 46; -46 47; -47 48; -48 49; -49 50; -50 51; -51 52; \
-            -52 53; -53 54; -54 55; -55 56; -56 57; -57 58; -58 59; -59 60; -60 61; -61 62; -62 63
+    longest chain | 64 | -0 1; -1 2; -2 3; -3 4; -4 5; -5 6; -6 7; -7 8; -8 9; -9 10; -10 11; -11 12; -12 13; -13 14; \
+            -14 15; -15 16; -16 17; -17 18; -18 19; -19 20; -20 21; -21 22; -22 23; -23 24; -24 25; -25 26; -26 27; \
+            -27 28; -28 29; -29 30; -30 31; -31 32; -32 33; -33 34; -34 35; -35 36; -36 37; -37 38; -38 39; -39 40; \
+            -40 41; -41 42; -42 43; -43 44; -44 45; -45 46; -46 47; -47 48; -48 49; -49 50; -50 51; -51 52; -52 53; \
+            -53 54; -54 55; -55 56; -56 57; -57 58; -58 59; -59 60; -60 61; -61 62; -62 63
         from the first on | closure of 0 | yes 0 | yes 0-63
         from the last on | closure of 0 | no 63 | no 0-63
         from the middle on | closure of 0 | yes 31 | yes 31-63
@@ -46,7 +46,7 @@ fn clause_sheets_closed(rt: HostRuntime) -> Result<(), Fail> {
 
 // The product of the table and the clauses, as in the example of docs/MEANING.md.
 const PRODUCT: &str = "
-    product closed | 0 1: nn ny yy | 2 3; 1 -2 | product 0 and 1; complement 0
+    product closed | 0 1: nn ny yy / 2 3; 1 -2 | product 0 and 1; complement 0
         1 is no | closure of 0 | no 1 | no 0-2 yes 3
         0 is yes | closure of 0 | yes 0 | yes 0 1
         3 is no | closure of 0 | no 3 | no 3 yes 1 2

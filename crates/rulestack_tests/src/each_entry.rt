@@ -1,5 +1,5 @@
 // Replies of a folder's entries over sheets; tests of projections have a file of their own.
-use crate::beside::no_clauses;
+use crate::beside::yes_and_no;
 use crate::build::sheet_rules;
 use crate::expect::{expect_cases, expect_each, expect_of_folder, expect_told};
 use entries::{Draft, EntrySpace};
@@ -9,7 +9,7 @@ use sheet_rules::ClauseSheets;
 use std::test::Fail;
 
 const CASES: &str = "
-    carry | 0 1: nn ny yy | 2 3; 1 -2 | carry 1; carry 0
+    carry | 0 1: nn ny yy / 2 3; 1 -2 | carry 1; carry 0
         nothing known | 0 | nothing | same
         partly known | 0 | no 1 | no 1 2
         a build allowed | 0 | no 0-63 yes 3 | same
@@ -18,7 +18,7 @@ const CASES: &str = "
         the other rule | 1 | yes 0 | yes 0 1
         the other rule, refused | 1 | yes 0 no 1 | contradiction
 
-    product | 0 1: nn ny yy | 2 3; 1 -2 | product 0 and 1; product 1 and 0; product 1 and 1
+    product | 0 1: nn ny yy / 2 3; 1 -2 | product 0 and 1; product 1 and 0; product 1 and 1
         nothing known | 0 | nothing | same
         both add | 0 | no 1 | no 0 1 2
         only the first adds | 0 | yes 0 | yes 0 1
@@ -31,7 +31,7 @@ const CASES: &str = "
         the other way round | 1 | no 1 | no 0 1 2
         one rule twice | 2 | no 1 | no 1 2
 
-    product of replies that disagree | 0 1: nn ny yy | -1 / 5 / -5 | product 0 and 1; product 2 and 3; product 3 and 2
+    product of replies that disagree | 0 1: nn ny yy / -1 / 5 / -5 | product 0 and 1; product 2 and 3; product 3 and 2
         a table and a clause | 0 | yes 0 | yes 0 both 1
         they agree | 0 | no 0 | no 0 1
         two clauses | 1 | nothing | both 5
@@ -39,12 +39,12 @@ const CASES: &str = "
         two clauses, turned round | 2 | yes 7 | yes 7 both 5
         one of them the contradiction | 1 | yes 5 | contradiction
 
-    neither is told of the other | | -2 / 2 3 | product 0 and 1; product 1 and 0
+    neither is told of the other | -2 / 2 3 | product 0 and 1; product 1 and 0
         what the first adds | 0 | nothing | no 2
         what the second adds | 1 | nothing | no 2
         asked again | 0 | no 2 | no 2 yes 3
 
-    either | 0 1: nn ny yy | 2 3; 1 -2 | either 0 or 1; either 1 or 0; either 0 or 0
+    either | 0 1: nn ny yy / 2 3; 1 -2 | either 0 or 1; either 1 or 0; either 0 or 0
         nothing known | 0 | nothing | same
         both add, but not the same | 0 | no 1 | no 1
         only one adds | 0 | yes 0 | yes 0
@@ -61,7 +61,7 @@ const CASES: &str = "
         one rule twice | 2 | yes 0 | yes 0 1
         one rule twice, refused | 2 | yes 0 no 1 | contradiction
 
-    either of inconsistent replies | | 5; -5 / 6; 7; 5 / 6; -6 / 4; 5 | either 0 or 1; either 1 or 0; either 0 or 2; \
+    either of inconsistent replies | 5; -5 / 6; 7; 5 / 6; -6 / 4; 5 | either 0 or 1; either 1 or 0; either 0 or 2; \
             either 0 or 0; either 1 or 3
         the first is inconsistent | 0 | nothing | yes 5 6 7
         the second is inconsistent | 1 | yes 1 no 2 | yes 1 5 6 7 no 2
@@ -69,7 +69,7 @@ const CASES: &str = "
         both, at the same option | 3 | nothing | contradiction
         none is inconsistent | 4 | nothing | yes 5
 
-    selection | | 4; -9 / no clauses | selection 0 left 4 right 8 width 2; selection 1 left 4 right 8 width 2; \
+    selection | 4; -9 / no clauses | selection 0 left 4 right 8 width 2; selection 1 left 4 right 8 width 2; \
             selection 1 left 8 right 4 width 1
         what the rule adds moves both ways | 0 | nothing | yes 4 8 no 5 9
         what is known moves to the right | 1 | yes 4 no 5 | yes 4 8 no 5 9
@@ -85,19 +85,19 @@ const CASES: &str = "
         inconsistent | 1 | both 4 | contradiction
         inconsistent beside the ranges | 1 | both 50 | contradiction
 
-    selection, ranges | | no clauses | selection 0 left 0 right 32 width 32; selection 0 left 2 right 0 width 2; \
+    selection, ranges | no clauses | selection 0 left 0 right 32 width 32; selection 0 left 2 right 0 width 2; \
             selection 0 left 0 right 63 width 1
         the whole lower half | 0 | yes 0 5 no 40 63 | yes 0 5 32 37 no 8 31 40 63
         side by side | 1 | yes 0 no 3 | yes 0 2 no 1 3
         not handed on further | 1 | yes 4 | same
         the outermost options | 2 | no 63 | no 0 63
 
-    selection asks once | | 4; 6 -8 | selection 0 left 4 right 8 width 1
+    selection asks once | 4; 6 -8 | selection 0 left 4 right 8 width 1
         what moved is not told | 0 | nothing | yes 4 8
         asked again | 0 | yes 4 8 | yes 4 6 8
         known on the other side only | 0 | yes 8 | yes 4 6 8
 
-    complement | 0 1: nn ny yy | 2 3; 1 -2 | complement 0; complement 1
+    complement | 0 1: nn ny yy / 2 3; 1 -2 | complement 0; complement 1
         nothing known | 0 | nothing | same
         partly known, the rule adds | 0 | yes 0 | same
         partly known, the rule refuses | 0 | yes 0 no 1 | same
@@ -111,7 +111,7 @@ const CASES: &str = "
         the other rule, allowed | 1 | no 0-63 yes 3 | contradiction
         the other rule, refused | 1 | no 0-63 | same
 
-    none | 0 1: nn ny yy | 2 3; 1 -2 | none; carry 0
+    none | 0 1: nn ny yy / 2 3; 1 -2 | none; carry 0
         nothing known | 0 | nothing | contradiction
         partly known | 0 | yes 1 | contradiction
         a build | 0 | no 0-63 | contradiction
@@ -126,7 +126,7 @@ fn each_entry(rt: HostRuntime) -> Result<(), Fail> {
 }
 
 const NUMBERS: &str = "
-    numbers | 0 / no clauses | 2 | none; carry 1; carry 0; carry 0; complement 1; carry 1; product 0 and 1
+    numbers | 0 / no clauses | 2: none; carry 1; carry 0; carry 0; complement 1; carry 1; product 0 and 1
         count | 7
         the last | 6 | no 1 | yes 0 no 1
         absent | 7 8 31 32 63 64 255 256 4294967295
@@ -148,7 +148,7 @@ const CARRIED: &str = "
 #[test]
 fn carried(rt: HostRuntime) -> Result<(), Fail> {
     let heap = rt.alloc();
-    let bodies = no_clauses(heap, 40)?;
+    let bodies = yes_and_no(heap, 0, 40)?;
     let sheets: ClauseSheets<'_> = sheet_rules(heap, bodies.as_slice(), 64)?;
     let draft = Draft::carrying(EntrySpace::reserve(heap)?, 64, sheets.count());
     let mut rules = Folder::lay(draft, sheets);

@@ -1,6 +1,6 @@
 // Asking rule sets in a test, and comparing what they reply. The cases stand in tables of text: blocks with an empty line
 // between them. The first line of a block says of which rule set it is, and each further line is a case.
-use crate::build::{beside, bodies, draft, in_letters, known, sheet_rules};
+use crate::build::{beside, bodies, draft, in_letters, known, sheet_rules, tables_in};
 use assignment::Assignment;
 use folders::Folder;
 use ruleset::{RuleSet, closure};
@@ -22,19 +22,18 @@ pub(crate) fn expect_same<T: PartialEq + Debug + Copy>(
     Ok(())
 }
 
-// The four parts of a line with `|` between them.
-pub(crate) fn parts(line: &str) -> Result<(&str, &str, &str, &str), Fail> {
+// The three parts of a line with `|` between them. More of them stand in the last.
+pub(crate) fn parts(line: &str) -> Result<(&str, &str, &str), Fail> {
     let (first, rest) = line.split_once('|').ok_or("only one part")?;
-    let (second, rest) = rest.split_once('|').ok_or("only two parts")?;
-    let (third, fourth) = rest.split_once('|').ok_or("only three parts")?;
-    Ok((first.trim(), second.trim(), third.trim(), fourth.trim()))
+    let (second, third) = rest.split_once('|').ok_or("only two parts")?;
+    Ok((first.trim(), second.trim(), third.trim()))
 }
 
 // What is expected at each block of a table: of its first line, and of those behind it.
-pub(crate) fn expect_each<F: Fn(Global, &str, &str) -> Result<(), Fail>>(
+pub(crate) fn expect_each<F: FnMut(Global, &str, &str) -> Result<(), Fail>>(
     heap: Global,
     table: &str,
-    expect: F,
+    mut expect: F,
 ) -> Result<(), Fail>
     requires { F.IsAlwaysCallable expect }
 {
@@ -55,14 +54,14 @@ pub(crate) struct Case<'a> {
     pub(crate) wanted: Assignment,
 }
 
-// The case in a line of four parts: what it is about, a rule, a question and the reply. A reply `same` is the question.
+// The case in a line: what it is about, a rule, and the question and the reply. A reply `same` is the question.
 pub(crate) fn case_of(line: &str) -> Result<Case<'_>, Fail> {
-    let (about, rule, question, reply) = parts(line)?;
+    let (about, rule, asked) = parts(line)?;
+    let (question, reply) = asked.split_once('|').ok_or("no reply")?;
     let question = known(question)?;
-    let wanted = if reply == "same" {
-        question
-    } else {
-        known(reply)?
+    let wanted = match reply.trim() {
+        "same" => question,
+        words => known(words)?,
     };
     Ok(Case {
         about,
@@ -114,14 +113,19 @@ pub(crate) fn expect_cases<R: RuleSet>(
     cases: &str,
 ) -> Result<(), Fail> {
     for line in cases.trim().lines() {
-        let (word, rest) = line.split_once('|').ok_or("no case")?;
-        match word.trim() {
-            "count" => expect_same(rules.count(), rest.trim().parse::<u32>()?, about, "count")?,
-            "absent" => expect_all_absent(rules, about, rest)?,
-            _ => expect_case(rules, about, line)?,
-        }
+        expect_line(rules, about, line.trim())?;
     }
     Ok(())
+}
+
+fn expect_line<R: RuleSet>(rules: &mut R, about: &str, line: &str) -> Result<(), Fail> {
+    if let Some(count) = line.strip_prefix("count | ") {
+        return expect_same(rules.count(), count.parse::<u32>()?, about, "count");
+    }
+    match line.strip_prefix("absent | ") {
+        Some(numbers) => expect_all_absent(rules, about, numbers),
+        None => expect_case(rules, about, line),
+    }
 }
 
 // The reply to the build with these yeses: the build itself if it is among those in letters, and inconsistent if not.
@@ -148,44 +152,54 @@ fn is_among(build: u64, allowed: &str) -> Result<bool, Fail> {
     Ok(false)
 }
 
-// The head: what it is about, how many options the file has, how many sheets, and the tables.
+// The head: what it is about, how many options the file has, and the tables.
 pub(crate) fn expect_of_tables(heap: Global, head: &str, cases: &str) -> Result<(), Fail> {
-    let (about, options, count, sheets) = parts(head)?;
+    let (about, options, sheets) = parts(head)?;
     let bodies = bodies(heap, sheets)?;
     let mut rules: TableSheets<'_> = sheet_rules(heap, bodies.as_slice(), options.parse::<u32>()?)?;
-    expect_same(rules.count(), count.parse::<u32>()?, about, "count")?;
     expect_cases(&mut rules, about, cases)
 }
 
-// The head: what it is about, how many options the file has, how many sheets, and the clause sheets.
+// The head: what it is about, how many options the file has, and the clause sheets.
 pub(crate) fn expect_of_clauses(heap: Global, head: &str, cases: &str) -> Result<(), Fail> {
-    let (about, options, count, sheets) = parts(head)?;
+    let (about, options, sheets) = parts(head)?;
     let bodies = bodies(heap, sheets)?;
     let mut rules: ClauseSheets<'_> = sheet_rules(
         heap,
         bodies.as_slice(),
         options.parse::<u32>()?,
     )?;
-    expect_same(rules.count(), count.parse::<u32>()?, about, "count")?;
     expect_cases(&mut rules, about, cases)
 }
 
-// The head: what it is about, tables, clause sheets, and the entries of a folder over the ones beside the others.
+// The cases of a folder with these entries over other rules, told of so many.
+pub(crate) fn expect_laid<R: RuleSet + Drop>(
+    heap: Global,
+    below: R,
+    told: u32,
+    entries: &str,
+    about: &str,
+    cases: &str,
+) -> Result<(), Fail> {
+    let mut rules = Folder::lay(draft(heap, told, entries)?, below);
+    expect_cases(&mut rules, about, cases)
+}
+
+// The head: what it is about, tables and clause sheets, and the entries of a folder over the ones beside the others.
 pub(crate) fn expect_of_folder(heap: Global, head: &str, cases: &str) -> Result<(), Fail> {
-    let (about, tables, clauses, entries) = parts(head)?;
-    let first = bodies(heap, tables)?;
-    let second = bodies(heap, clauses)?;
-    let sheets = beside(heap, first.as_slice(), second.as_slice())?;
-    let below = sheets.count();
-    let mut rules = Folder::lay(draft(heap, below, entries)?, sheets);
-    expect_cases(&mut rules, about, cases)
+    let (about, sheets, entries) = parts(head)?;
+    let bodies = bodies(heap, sheets)?;
+    let sheets = beside(heap, bodies.as_slice(), tables_in(sheets))?;
+    let count = sheets.count();
+    expect_laid(heap, sheets, count, entries, about, cases)
 }
 
-// The head: what it is about, clause sheets, how many rules a folder over them is told of, and its entries.
+// The head: what it is about, clause sheets, and behind the number of rules that a folder over them is told of, its entries.
 pub(crate) fn expect_told(heap: Global, head: &str, cases: &str) -> Result<(), Fail> {
-    let (about, clauses, told, entries) = parts(head)?;
+    let (about, clauses, folder) = parts(head)?;
+    let (told, entries) = folder.split_once(':').ok_or("no number of rules")?;
+    let told = told.parse::<u32>()?;
     let bodies = bodies(heap, clauses)?;
     let sheets: ClauseSheets<'_> = sheet_rules(heap, bodies.as_slice(), 64)?;
-    let mut rules = Folder::lay(draft(heap, told.parse::<u32>()?, entries)?, sheets);
-    expect_cases(&mut rules, about, cases)
+    expect_laid(heap, sheets, told, entries.trim(), about, cases)
 }

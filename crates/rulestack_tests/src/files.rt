@@ -1,6 +1,6 @@
 // The rules of a whole file.
-use crate::beside::{no_clauses, yes_tables};
-use crate::build::{CLAUSES, TABLE, bodies, fields_of};
+use crate::beside::yes_and_no;
+use crate::build::{bodies, fields_of};
 use crate::expect::{case_of, expect_build, expect_cases, expect_same};
 use assignment::Assignment;
 use rulefile::{Space, read};
@@ -15,12 +15,13 @@ const SAMPLE: &[u8; 65] = b"\x11\0\x01\0\x04\0\0\0\0\0\0\0\0\0\0\0\0\0\0\0\0\
     \x0c\0\x04\0\x01\0\x01\0\0\0\0\0\0\0\0\0\
     \x01\0\x05\0\0";
 
-// A file: the bodies of its sheets, its folders in words, and the asked rule. Nothing is known at the start.
+// A file: the bodies of its sheets, of which so many are tables, its folders in words, and the asked rule. Nothing is known
+// at the start.
 #[derive(Clone, Copy)]
 struct Parts<'a> {
     options: u8,
-    tables: &'a [Vec<u8>],
-    clauses: &'a [Vec<u8>],
+    sheets: &'a [Vec<u8>],
+    tables: usize,
     folders: &'a [&'a str],
     asked: u8,
 }
@@ -32,8 +33,9 @@ fn add_record(bytes: &mut Vec<u8>, kind: u8, body: &[u8]) -> Result<(), Fail> {
     Ok(())
 }
 
-fn add_sheets(bytes: &mut Vec<u8>, kind: u8, sheets: &[Vec<u8>]) -> Result<(), Fail> {
-    for sheet in sheets {
+fn add_sheets(bytes: &mut Vec<u8>, parts: &Parts) -> Result<(), Fail> {
+    for (sheet, place) in parts.sheets.iter().zip(0..64) {
+        let kind = if place < parts.tables { 2 } else { 3 };
         add_record(bytes, kind, sheet.as_slice())?;
     }
     Ok(())
@@ -58,8 +60,7 @@ fn add_parts(heap: Global, bytes: &mut Vec<u8>, parts: &Parts) -> Result<(), Fai
     let mut start = [0; 17];
     start[0] = parts.options;
     add_record(bytes, 1, &start)?;
-    add_sheets(bytes, 2, parts.tables)?;
-    add_sheets(bytes, 3, parts.clauses)?;
+    add_sheets(bytes, parts)?;
     for folder in parts.folders {
         add_folder(heap, bytes, folder)?;
     }
@@ -84,12 +85,12 @@ fn expect_file(heap: Global, bytes: &[u8], row: &FileRow) -> Result<(), Fail> {
     };
     expect_same(file.asked(), u32::from(row.asked), row.about, "asked rule")?;
     let mut rules = build(StackSpace::reserve(heap)?, file);
-    expect_cases(&mut rules, row.about, row.cases)?;
-    expect_by_ask(&mut rules, row.about, row.by_ask)?;
-    expect_allowed(&mut rules, row)
+    expect_row(&mut rules, row)
 }
 
-fn expect_allowed(rules: &mut RuleStack, row: &FileRow) -> Result<(), Fail> {
+fn expect_row(rules: &mut RuleStack, row: &FileRow) -> Result<(), Fail> {
+    expect_cases(rules, row.about, row.cases)?;
+    expect_by_ask(rules, row.about, row.by_ask)?;
     for (allowed, rule) in row.allowed.iter().zip(0..64u32) {
         expect_builds(rules, rule, row.about, allowed)?;
     }
@@ -149,12 +150,11 @@ fn sample(rt: HostRuntime) -> Result<(), Fail> {
 
 // The sheets of the example with the folders of a row.
 fn sample_with(heap: Global, row: &FileRow) -> Result<Vec<u8>, Fail> {
-    let first = bodies(heap, TABLE)?;
-    let second = bodies(heap, CLAUSES)?;
+    let sheets = bodies(heap, "0 1: nn ny yy / 2 3; 1 -2")?;
     let parts = Parts {
         options: 4,
-        tables: first.as_slice(),
-        clauses: second.as_slice(),
+        sheets: sheets.as_slice(),
+        tables: 1,
         folders: row.folders,
         asked: row.asked,
     };
@@ -268,12 +268,11 @@ const FULL: FileRow = FileRow {
 #[test]
 fn thirty_two_sheets(rt: HostRuntime) -> Result<(), Fail> {
     let heap = rt.alloc();
-    let first = yes_tables(heap, 20)?;
-    let second = no_clauses(heap, 12)?;
+    let sheets = yes_and_no(heap, 20, 12)?;
     let parts = Parts {
         options: 64,
-        tables: first.as_slice(),
-        clauses: second.as_slice(),
+        sheets: sheets.as_slice(),
+        tables: 20,
         folders: &[],
         asked: 31,
     };

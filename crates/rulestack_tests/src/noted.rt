@@ -2,7 +2,7 @@
 // is yes, its rule 0 adds that 1 is yes; if option 2 is yes, its rule 1 adds that 1 is yes and 3 no.
 use crate::build::{draft, known};
 use crate::closures::{Search, expect_searches};
-use crate::expect::{expect_cases, expect_each, expect_same};
+use crate::expect::{expect_cases, expect_each, expect_laid, expect_same};
 use crate::steps::{Notes, Step, Steps};
 use assignment::Assignment;
 use folders::Folder;
@@ -95,8 +95,7 @@ const OVER_STEPS: &str = "
 fn expect_over_steps(heap: Global, head: &str, cases: &str) -> Result<(), Fail> {
     let (about, entries) = head.split_once('|').ok_or("no entries")?;
     let notes = Cell::new(no_notes());
-    let mut rules = Folder::lay(draft(heap, 2, entries)?, steps(&notes));
-    expect_cases(&mut rules, about.trim(), cases)
+    expect_laid(heap, steps(&notes), 2, entries, about.trim(), cases)
 }
 
 #[test]
@@ -142,8 +141,15 @@ const ASKED_TWICE: &str = "
 #[test]
 fn asked_twice(rt: HostRuntime) -> Result<(), Fail> {
     let notes = Cell::new(no_notes());
-    let mut rules = Folder::lay(draft(rt.alloc(), 2, "carry 0; carry 1")?, steps(&notes));
-    expect_cases(&mut rules, "asked twice", ASKED_TWICE)?;
+    let entries = "carry 0; carry 1";
+    expect_laid(
+        rt.alloc(),
+        steps(&notes),
+        2,
+        entries,
+        "asked twice",
+        ASKED_TWICE,
+    )?;
     let Notes { asked, last } = notes.get();
     expect_same(asked, 4, "asked twice", "questions noted")?;
     let wanted = (known("yes 0 both 9")?, known("yes 0 1 both 9")?);

@@ -1,6 +1,6 @@
 // Replies of projections.
 use crate::build::{bodies, draft, sheet_rules};
-use crate::expect::{expect_cases, expect_each, expect_of_folder, parts};
+use crate::expect::{expect_each, expect_laid, expect_of_folder, parts};
 use folders::Folder;
 use sheet_rules::ClauseSheets;
 use std::alloc::Global;
@@ -8,7 +8,7 @@ use std::test::Fail;
 
 // In the search, no value of 0 and 1 meets the first sheet's four clauses, and yet each of them has two values left.
 const OVER_SHEETS: &str = "
-    over a table | 0 1: nn ny yy | | projection 0 hides 0; projection 0 hides 1; projection 0 hides 0-1 7
+    over a table | 0 1: nn ny yy | projection 0 hides 0; projection 0 hides 1; projection 0 hides 0-1 7
         nothing known | 0 | nothing | same
         what is added there is dropped | 0 | no 1 | same
         a hidden option is not told | 0 | yes 0 | same
@@ -27,7 +27,7 @@ const OVER_SHEETS: &str = "
         inconsistent at a hidden option, all known | 0 | no 1-63 both 0 | contradiction
         inconsistent at a shown option | 0 | both 9 | contradiction
 
-    shown options get what is added | 0 1 2: nny yyy / 0: | | projection 0 hides 0; projection 1 hides 3 6
+    shown options get what is added | 0 1 2: nny yyy / 0: | projection 0 hides 0; projection 1 hides 3 6
         nothing known | 0 | nothing | yes 2
         a shown option known | 0 | yes 1 | yes 1 2
         a wrong hidden option known | 0 | yes 1 no 0 | yes 1 2 no 0
@@ -39,7 +39,7 @@ const OVER_SHEETS: &str = "
         a table without rows, one unknown | 1 | no 0-62 | both 0-63 no 3 6
         a table without rows, all shown known | 1 | no 0-63 unknown 3 6 | contradiction
 
-    inconsistent at hidden options only | | 5; -5 / 0 5; 0 -5 | projection 0 hides 5; projection 0 hides 6; \
+    inconsistent at hidden options only | 5; -5 / 0 5; 0 -5 | projection 0 hides 5; projection 0 hides 6; \
             projection 1 hides 5; projection 0 hides
         it is dropped | 0 | nothing | same
         it is dropped, some known | 0 | yes 2 no 3 | same
@@ -54,7 +54,7 @@ const OVER_SHEETS: &str = "
         while 0 is yes, all shown known | 2 | no 1-63 unknown 5 yes 0 | same
         nothing is hidden | 3 | yes 6 | yes 6 both 5
 
-    the search | | 0 1; 0 -1; -0 1; -0 -1 / 0 1; 0 -1; -0 1 / 0 1 9; 0 -1; -0 1; -0 -1 | projection 0 hides 0-1; \
+    the search | 0 1; 0 -1; -0 1; -0 -1 / 0 1; 0 -1; -0 1 / 0 1 9; 0 -1; -0 1; -0 -1 | projection 0 hides 0-1; \
             projection 1 hides 0-1; projection 2 hides 0-1
         nothing known | 0 | nothing | same
         one shown option unknown | 0 | no 2-62 | same
@@ -67,7 +67,7 @@ const OVER_SHEETS: &str = "
         a shown option lets one fit | 2 | yes 2-63 | same
         a shown option lets none fit | 2 | yes 2-63 no 9 | contradiction
 
-    nothing hidden | 0 1: nn ny yy | | projection 0 hides
+    nothing hidden | 0 1: nn ny yy | projection 0 hides
         nothing known | 0 | nothing | same
         partly known | 0 | yes 0 | yes 0 1
         no row | 0 | yes 0 no 1 | contradiction
@@ -86,7 +86,7 @@ fn over_sheets(rt: HostRuntime) -> Result<(), Fail> {
 // only, so each filling of sixteen hidden options has to be tried: yes first, and the one in which all are no comes last.
 const OVER_A_FOLDER: &str = "
     two stacked | 0 2; -0 1 / 0 2; -0 2 / 0 1 2; -0 1 3; -1 2 | projection 0 hides 0; projection 1 hides 0; \
-            projection 2 hides 0 | projection 0 hides 1; projection 1 hides 1; projection 2 hides 1
+            projection 2 hides 0 / projection 0 hides 1; projection 1 hides 1; projection 2 hides 1
         fillings of both make up for all | 0 | no 0-63 | same
         no fillings of both can | 1 | no 0-63 | contradiction
         none are needed | 1 | no 0-63 yes 2 | same
@@ -100,7 +100,7 @@ const OVER_A_FOLDER: &str = "
         inconsistent at the upper's hidden option | 0 | both 1 | contradiction
         inconsistent at the lower's hidden option | 0 | both 0 | contradiction
 
-    nothing hidden over a selection | no clauses | selection 0 left 4 right 8 width 1 | projection 0 hides; carry 0; \
+    nothing hidden over a selection | no clauses | selection 0 left 4 right 8 width 1 / projection 0 hides; carry 0; \
             projection 0 hides 8; projection 0 hides 4 8
         the projection | 0 | no 0-63 yes 4 | contradiction
         the carry | 1 | no 0-63 yes 4 | no 0-63 both 4 8
@@ -110,7 +110,7 @@ const OVER_A_FOLDER: &str = "
         8 hidden, unfinished | 2 | yes 4 no 8 | same
         both hidden | 3 | no 0-63 yes 4 | same
 
-    sixteen hidden | 0 1 2 3 4 5 6 7 8 9 10 11 12 13 14 15 / no clauses | complement 0; complement 1 | \
+    sixteen hidden | 0 1 2 3 4 5 6 7 8 9 10 11 12 13 14 15 / no clauses | complement 0; complement 1 / \
             projection 0 hides 0-15; projection 1 hides 0-15; projection 0 hides 1-15
         only the last filling fits | 0 | no 16-63 | same
         only the last filling fits a build | 0 | yes 0-63 | same
@@ -122,12 +122,12 @@ const OVER_A_FOLDER: &str = "
 ";
 
 fn expect_stacked(heap: Global, head: &str, cases: &str) -> Result<(), Fail> {
-    let (about, clauses, lower, upper) = parts(head)?;
+    let (about, clauses, folders) = parts(head)?;
+    let (lower, upper) = folders.split_once('/').ok_or("only one folder")?;
     let bodies = bodies(heap, clauses)?;
     let sheets: ClauseSheets<'_> = sheet_rules(heap, bodies.as_slice(), 64)?;
     let below = Folder::lay(draft(heap, 32, lower)?, sheets);
-    let mut rules = Folder::lay(draft(heap, 32, upper)?, below);
-    expect_cases(&mut rules, about, cases)
+    expect_laid(heap, below, 32, upper, about, cases)
 }
 
 #[test]

@@ -4,8 +4,8 @@ use crate::expect::{expect_each, expect_told};
 use std::test::Fail;
 
 const CASES: &str = "
-    rules that are not there | 4 | 40 | carry 7; product 0 and 7; product 7 and 0; \
-            selection 7 left 0 right 1 width 1; carry 1; carry 39; carry 0
+    rules that are not there | 4 | 40: carry 7; product 0 and 7; product 7 and 0; selection 7 left 0 right 1 width 1; \
+            carry 1; carry 39; carry 0
         count | 7
         carry | 0 | nothing | contradiction
         carry, a build | 0 | yes 0-63 | contradiction
@@ -19,7 +19,7 @@ const CASES: &str = "
         the rule that is there | 6 | nothing | yes 4
         absent | 7 40 63 64 4294967295
 
-    either and complement | 4 | 40 | either 0 or 7; either 7 or 0; either 7 or 8; complement 7
+    either and complement | 4 | 40: either 0 or 7; either 7 or 0; either 7 or 8; complement 7
         count | 4
         either | 0 | yes 2 no 3 | yes 2 4 no 3
         either, the rule refuses | 0 | no 4 | contradiction
@@ -33,7 +33,7 @@ const CASES: &str = "
         complement, inconsistent | 3 | both 9 | contradiction
         absent | 4 40 63 64 4294967295
 
-    projection | 4 | 40 | projection 7 hides 3 5; projection 7 hides
+    projection | 4 | 40: projection 7 hides 3 5; projection 7 hides
         count | 2
         nothing known | 0 | nothing | both 0-63 unknown 3 5
         hidden options known | 0 | yes 3 no 5 | both 0-63 yes 3 no 5
@@ -45,22 +45,22 @@ const CASES: &str = "
         nothing hidden | 1 | nothing | contradiction
         absent | 2 40 63 64 4294967295
 
-    no rule told | 4 | 0 | none; none
+    no rule told | 4 | 0: none; none
         count | 2
         none | 1 | nothing | contradiction
         absent | 2 40 63 64 4294967295
 
-    no entry, one rule told | 4 | 1 |
+    no entry, one rule told | 4 | 1:
         count | 0
         no entry | 0 | nothing | contradiction
         absent | 0 40 63 64 4294967295
 
-    no entry, 40 rules told | 4 | 40 |
+    no entry, 40 rules told | 4 | 40:
         count | 0
         no entry | 0 | no 0-63 | contradiction
         absent | 0 40 63 64 4294967295
 
-    more rules than told | 1 / 2 / 3 | 1 | carry 0; complement 0
+    more rules than told | 1 / 2 / 3 | 1: carry 0; complement 0
         count | 2
         the rule that was told | 0 | nothing | yes 1
         the complement of it | 1 | no 0-63 | same
