@@ -57,45 +57,54 @@ fn mask_of(word: &str) -> Result<u64, Fail> {
     Ok(mask)
 }
 
-// The bodies of clause sheets with `/` between them, each as `2 3; 1 -2`: in each clause the options that are wanted
-// yes, and behind a minus those that are wanted no. The sheet without clauses is written `no clauses`.
-pub(crate) fn clauses(heap: Global, text: &str) -> Result<Vec<Vec<u8>>, Fail> {
-    let mut bodies = Vec::new(heap);
-    for sheet in text.split('/') {
-        bodies.push(clauses_body(heap, sheet.trim())?)?;
-    }
-    Ok(bodies)
+// The mask of one option; of none from 64 on.
+pub(crate) fn bit(option: u32) -> u64 {
+    1u64.checked_shl(option).unwrap_or(0)
 }
 
-fn clauses_body(heap: Global, sheet: &str) -> Result<Vec<u8>, Fail> {
-    let mut body = Vec::new(heap);
-    if sheet == "no clauses" {
-        return Ok(body);
-    }
-    for clause in sheet.split(';') {
-        body.push(u8::try_from(clause.split_whitespace().count())?)?;
-        for wanted in clause.split_whitespace() {
-            body.push(wanted_byte(wanted)?)?;
-        }
-    }
-    Ok(body)
-}
+// In the body of a clause sheet a clause is the count of its values, and then each option that is wanted yes, or one of
+// these for an option that is wanted no.
+pub(crate) const NO_1: u8 = 128 | 1;
 
-fn wanted_byte(wanted: &str) -> Result<u8, Fail> {
-    match wanted.strip_prefix('-') {
-        Some(option) => Ok(option.parse::<u8>()? | 128),
-        None => Ok(wanted.parse::<u8>()?),
-    }
-}
+pub(crate) const NO_2: u8 = 128 | 2;
 
-// Clause sheets in a file with 64 options.
-pub(crate) fn clause_sheets(heap: Global, bodies: &[Vec<u8>]) -> Result<ClauseSheets<'_>, Fail> {
+pub(crate) const NO_9: u8 = 128 | 9;
+
+pub(crate) const NO_16: u8 = 128 | 16;
+
+pub(crate) const NO_17: u8 = 128 | 17;
+
+pub(crate) const NO_32: u8 = 128 | 32;
+
+pub(crate) const NO_33: u8 = 128 | 33;
+
+pub(crate) const NO_40: u8 = 128 | 40;
+
+pub(crate) const NO_50: u8 = 128 | 50;
+
+// The body of the clause sheet that allows every build.
+pub(crate) const NO_CLAUSES: &[u8] = &[];
+
+// Clause sheets with these bodies, in a file with 64 options.
+pub(crate) fn clause_sheets<'a>(
+    heap: Global,
+    bodies: &[&'a [u8]],
+) -> Result<ClauseSheets<'a>, Fail> {
     let mut sheets = Vec::new(heap);
-    for body in bodies {
-        let bytes = body.as_slice();
+    for bytes in bodies {
         sheets.push(ClauseSheet::read(Body { bytes, place: 0 }, 64)?)?;
     }
     Ok(ClauseSheets::new(sheets))
+}
+
+// An enquiry on the rule of one clause sheet.
+pub(crate) fn opened_sheet<'a>(
+    heap: Global,
+    body: &'a [u8],
+    options: u32,
+    start: Assignment,
+) -> Result<Enquiry<ClauseSheets<'a>>, Fail> {
+    opened(clause_sheets(heap, &[body])?, options, start, 0)
 }
 
 // An enquiry that is to open.
@@ -105,10 +114,8 @@ pub(crate) fn opened<R: RuleSet + Drop>(
     start: Assignment,
     rule: u32,
 ) -> Result<Enquiry<R>, Fail> {
-    match Enquiry::open(rules, options, start, rule) {
-        Ok(enquiry) => Ok(enquiry),
-        Err(_) => Err(Fail::new("the enquiry is not opened")),
-    }
+    let opened = Enquiry::open(rules, options, start, rule).ok();
+    Ok(opened.ok_or("the enquiry is not opened")?)
 }
 
 // An enquiry on a file that is to be read.

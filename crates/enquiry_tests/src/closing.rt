@@ -1,6 +1,7 @@
 // Closing an enquiry: the last build that was given since the listing began, and the rule set.
-use crate::build::{SAMPLE, known, opened_file};
-use crate::expect::{expect_calls, expect_same};
+use crate::build::{SAMPLE, opened_file};
+use crate::expect::{FOUR, closed_after, expect_asked, expect_same};
+use enquiry::{Closed, Enquiry};
 use listing::Build;
 use ruleset::RuleSet;
 use std::alloc::Global;
@@ -8,67 +9,77 @@ use std::test::Fail;
 
 // Closed after these calls on the sample, an enquiry gives this build, or none.
 fn expect_last(heap: Global, calls: &str, yes: Option<u64>) -> Result<(), Fail> {
-    let mut enquiry = opened_file(heap, SAMPLE)?;
-    expect_calls(heap, &mut enquiry, &[0, 1, 2, 3], calls)?;
-    let closed = enquiry.close();
-    expect_same(closed.last, yes.map(|yes| Build { yes }), calls)?;
-    let mut rules = closed.rules;
-    expect_same(rules.count(), 1, "the rules given back")?;
-    let reply = rules.propagate(0, known("no 1")?);
-    expect_same(reply, known("no 0 1 2")?, "their reply")
+    expect_closed(heap, opened_file(heap, SAMPLE)?, calls, yes)
 }
+
+// The rules of the sample are given back with the last build.
+fn expect_closed<R: RuleSet + Drop>(
+    heap: Global,
+    enquiry: Enquiry<R>,
+    calls: &str,
+    yes: Option<u64>,
+) -> Result<(), Fail> {
+    let Closed { mut rules, last } = closed_after(heap, enquiry, FOUR, calls)?;
+    expect_same(last, yes.map(|yes| Build { yes }), calls)?;
+    expect_same(rules.count(), 1, "the rules given back")?;
+    expect_asked(&mut rules, 0, "no 1", "no 0 1 2")
+}
+
+const WITHOUT_A_BUILD: [&str; 11] = [
+    "",
+    "look | known ????",
+    "next 2 | stopped 2",
+    "settle 1 no | done\nlook | known nnny",
+    "settle 0 yes | done\nsettle 1 no | done\nnext 9 | end 0",
+    "next 9 | built yyyy 3\nagain | done",
+    "next 9 | built yyyy 3\nsettle 3 yes | done",
+    "settle 3 yes | done\nnext 9 | built yyyy 2\nback | done",
+    "next 9 | built yyyy 3\nagain | done\nnext 2 | stopped 2",
+    "settle 1 no | done\nnext 0 | built nnny 0\nnext 0 | end 0\nagain | done",
+    "next 9 | built yyyy 3\nsettle 0 yes | done\nsettle 1 no | done\nnext 9 | end 0",
+];
 
 #[test]
 fn no_build_given(rt: HostRuntime) -> Result<(), Fail> {
-    for calls in [
-        "",
-        "look | known ????",
-        "next 2 | stopped 2",
-        "settle 1 no | done\nlook | known nnny",
-        "settle 0 yes | done\nsettle 1 no | done\nnext 9 | end 0",
-        "next 9 | built yyyy 3\nagain | done",
-        "next 9 | built yyyy 3\nsettle 3 yes | done",
-        "settle 3 yes | done\nnext 9 | built yyyy 2\nback | done",
-        "next 9 | built yyyy 3\nagain | done\nnext 2 | stopped 2",
-        "settle 1 no | done\nnext 0 | built nnny 0\nnext 0 | end 0\nagain | done",
-        "next 9 | built yyyy 3\nsettle 0 yes | done\nsettle 1 no | done\nnext 9 | end 0",
-    ] {
+    for calls in &WITHOUT_A_BUILD {
         expect_last(rt.alloc(), calls, None)?;
     }
     Ok(())
 }
 
+const WITH_A_BUILD: [(&str, u64); 8] = [
+    ("next 9 | built yyyy 3", 0b1111),
+    ("next 9 | built yyyy 3\nnext 9 | built yyyn 0", 0b0111),
+    (
+        "next 2 | stopped 2\nnext 1 | built yyyy 1\nlook | known ????",
+        0b1111,
+    ),
+    (
+        "settle 3 yes | done\nnext 9 | built yyyy 2\nsettle 3 no | refused 22",
+        0b1111,
+    ),
+    (
+        "next 9 | built yyyy 3\nback | refused 23\nsettle 4 yes | refused 21",
+        0b1111,
+    ),
+    (
+        "next 3 | built yyyy 3\nnext 0 | built yyyn 0\nnext 0 | built yyny 0\nnext 0 | stopped 0",
+        0b1011,
+    ),
+    (
+        "settle 1 no | done\nnext 0 | built nnny 0\nnext 0 | end 0\nnext 0 | end 0",
+        0b1000,
+    ),
+    (
+        "settle 1 no | done\nnext 0 | built nnny 0\nback | done\nnext 9 | built yyyy 3",
+        0b1111,
+    ),
+];
+
 #[test]
 fn last_build(rt: HostRuntime) -> Result<(), Fail> {
-    for (calls, yes) in [
-        ("next 9 | built yyyy 3", 0b1111),
-        ("next 9 | built yyyy 3\nnext 9 | built yyyn 0", 0b0111),
-        (
-            "next 2 | stopped 2\nnext 1 | built yyyy 1\nlook | known ????",
-            0b1111,
-        ),
-        (
-            "settle 3 yes | done\nnext 9 | built yyyy 2\nsettle 3 no | refused 22",
-            0b1111,
-        ),
-        (
-            "next 9 | built yyyy 3\nback | refused 23\nsettle 4 yes | refused 21",
-            0b1111,
-        ),
-        (
-            "next 3 | built yyyy 3\nnext 0 | built yyyn 0\nnext 0 | built yyny 0\nnext 0 | stopped 0",
-            0b1011,
-        ),
-        (
-            "settle 1 no | done\nnext 0 | built nnny 0\nnext 0 | end 0\nnext 0 | end 0",
-            0b1000,
-        ),
-        (
-            "settle 1 no | done\nnext 0 | built nnny 0\nback | done\nnext 9 | built yyyy 3",
-            0b1111,
-        ),
-    ] {
-        expect_last(rt.alloc(), calls, Some(yes))?;
+    for (calls, yes) in &WITH_A_BUILD {
+        expect_last(rt.alloc(), calls, Some(*yes))?;
     }
     Ok(())
 }

@@ -1,30 +1,34 @@
 // The selling order: options 32 to 47, then 16 to 31, then 0 to 15, then 48 to 63.
-use crate::build::{clause_sheets, clauses, known, opened};
-use crate::expect::{expect_calls, expect_same};
+use crate::build::{NO_CLAUSES, bit, known};
+use crate::expect::{expect_of_sheet, expect_same};
+use crate::words::EVERY_OPTION;
 use assignment::Assignment;
-use listing::{Build, Progress, first_unknown};
+use listing::first_unknown;
 use std::alloc::Global;
 use std::test::Fail;
 
+// What is known, and the option that is chosen.
+const FIRST_UNKNOWN: [(&str, Option<u8>); 14] = [
+    ("nothing", Some(32)),
+    ("yes 32", Some(33)),
+    ("both 32", Some(33)),
+    ("no 0-46 48-63", Some(47)),
+    ("no 32-47", Some(16)),
+    ("no 32-47 yes 17", Some(16)),
+    ("yes 32-47 no 16-30 0-15", Some(31)),
+    ("yes 32-47 no 16-31", Some(0)),
+    ("yes 1-63", Some(0)),
+    ("yes 16-47 no 0-14 48", Some(15)),
+    ("yes 0-47", Some(48)),
+    ("yes 0-47 no 48-62", Some(63)),
+    ("yes 0-31 no 32-63", None),
+    ("contradiction", None),
+];
+
 #[test]
 fn first_unknown_options() -> Result<(), Fail> {
-    for (words, option) in [
-        ("nothing", Some(32)),
-        ("yes 32", Some(33)),
-        ("both 32", Some(33)),
-        ("no 0-46 48-63", Some(47)),
-        ("no 32-47", Some(16)),
-        ("no 32-47 yes 17", Some(16)),
-        ("yes 32-47 no 16-30 0-15", Some(31)),
-        ("yes 32-47 no 16-31", Some(0)),
-        ("yes 1-63", Some(0)),
-        ("yes 16-47 no 0-14 48", Some(15)),
-        ("yes 0-47", Some(48)),
-        ("yes 0-47 no 48-62", Some(63)),
-        ("yes 0-31 no 32-63", None),
-        ("contradiction", None),
-    ] {
-        expect_same(first_unknown(known(words)?), option, words)?;
+    for (words, option) in &FIRST_UNKNOWN {
+        expect_same(first_unknown(known(words)?), *option, words)?;
     }
     Ok(())
 }
@@ -43,35 +47,38 @@ fn each_option_in_turn() -> Result<(), Fail> {
 
 // The options that are shown are free, all others no at the start, and the rule allows every build.
 fn expect_of_free(heap: Global, shown: &[u32], calls: &str) -> Result<(), Fail> {
-    let mut free = 0;
-    for option in shown {
-        free |= 1u64.checked_shl(*option).ok_or("an option past 63")?;
-    }
-    let bodies = clauses(heap, "no clauses")?;
-    let rules = clause_sheets(heap, bodies.as_slice())?;
-    let mut enquiry = opened(rules, 64, Assignment::new(0, !free), 0)?;
-    expect_calls(heap, &mut enquiry, shown, calls)
+    let free = shown.iter().fold(0, |free, option| free | bit(*option));
+    expect_of_sheet(
+        heap,
+        NO_CLAUSES,
+        64,
+        Assignment::new(0, !free),
+        shown,
+        calls,
+    )
 }
 
-// Of each two the first is chosen first; the letter of the other stands before its own.
+// Of each two the letter of the one that is chosen first stands behind that of the other.
+const PAIRS: [[u32; 2]; 11] = [
+    [0, 32],
+    [16, 32],
+    [0, 16],
+    [48, 0],
+    [48, 16],
+    [33, 32],
+    [47, 46],
+    [16, 47],
+    [0, 31],
+    [48, 15],
+    [63, 62],
+];
+
 #[test]
 fn two_options(rt: HostRuntime) -> Result<(), Fail> {
-    for (first, second) in [
-        (32, 0),
-        (32, 16),
-        (16, 0),
-        (0, 48),
-        (16, 48),
-        (32, 33),
-        (46, 47),
-        (47, 16),
-        (31, 0),
-        (15, 48),
-        (62, 63),
-    ] {
+    for pair in &PAIRS {
         expect_of_free(
             rt.alloc(),
-            &[second, first],
+            pair,
             "
             next 1 | stopped 1
             next 1 | built yy 1
@@ -117,23 +124,18 @@ fn one_option_of_each_block(rt: HostRuntime) -> Result<(), Fail> {
 // All 64 options are free: 64 choices are open at the first build, and options 63 and 62 are the last.
 #[test]
 fn all_options(rt: HostRuntime) -> Result<(), Fail> {
-    let heap = rt.alloc();
-    let bodies = clauses(heap, "no clauses")?;
-    let rules = clause_sheets(heap, bodies.as_slice())?;
-    let mut enquiry = opened(rules, 64, known("nothing")?, 0)?;
-    let built = |yes, opened| Progress::Built {
-        build: Build { yes },
-        opened,
-    };
-    let stopped = |opened| Progress::Stopped { opened };
-    expect_same(enquiry.next(63), stopped(63), "63 choices")?;
-    expect_same(enquiry.next(0), stopped(0), "none more")?;
-    expect_same(enquiry.next(1), built(u64::MAX, 1), "the last choice")?;
-    expect_same(enquiry.next(0), built(u64::MAX >> 1, 0), "63 is no")?;
-    expect_same(enquiry.next(0), stopped(0), "62 is no")?;
-    let without = known("yes 0-61 63")?.yes_mask();
-    expect_same(enquiry.next(9), built(without, 1), "63 is yes again")?;
-    enquiry.again();
-    let first = enquiry.next(u32::MAX);
-    expect_same(first, built(u64::MAX, 64), "64 choices in one call")
+    expect_of_free(
+        rt.alloc(),
+        EVERY_OPTION,
+        "
+        next 63 | stopped 63
+        next 0 | stopped 0
+        next 1 | built yyyyyyyyyyyyyyyyyyyyyyyyyyyyyyyyyyyyyyyyyyyyyyyyyyyyyyyyyyyyyyyy 1
+        next 0 | built yyyyyyyyyyyyyyyyyyyyyyyyyyyyyyyyyyyyyyyyyyyyyyyyyyyyyyyyyyyyyyyn 0
+        next 0 | stopped 0
+        next 9 | built yyyyyyyyyyyyyyyyyyyyyyyyyyyyyyyyyyyyyyyyyyyyyyyyyyyyyyyyyyyyyyny 1
+        again | done
+        next 4294967295 | built yyyyyyyyyyyyyyyyyyyyyyyyyyyyyyyyyyyyyyyyyyyyyyyyyyyyyyyyyyyyyyyy 64
+        ",
+    )
 }

@@ -1,6 +1,5 @@
 // Whole runs on files: the recorded run, and whole listings with their choices.
-use crate::build::opened_file;
-use crate::expect::{expect_calls, expect_of_sample};
+use crate::expect::{expect_of_file, expect_of_sample};
 use std::test::Fail;
 
 #[test]
@@ -48,12 +47,9 @@ const CLAUSES_ASKED: &[u8; 49] = b"\x11\0\x01\0\x04\x08\0\0\0\0\0\0\0\0\0\0\0\0\
 
 #[test]
 fn start_and_asked_rule(rt: HostRuntime) -> Result<(), Fail> {
-    let heap = rt.alloc();
-    let mut enquiry = opened_file(heap, CLAUSES_ASKED)?;
-    expect_calls(
-        heap,
-        &mut enquiry,
-        &[0, 1, 2, 3],
+    expect_of_file(
+        rt.alloc(),
+        CLAUSES_ASKED,
         "
         look | known ???y
         settle 3 no | refused 22

@@ -1,107 +1,137 @@
 // Lists of calls, answered from the opening on.
 use crate::build::known;
-use crate::expect::{expect_calls, expect_same};
+use crate::expect::{FOUR, expect_all_calls, expect_reply, expect_same};
 use crate::steps::sample_steps;
-use crate::words::{call_of, reply_words};
+use crate::words::InWords;
 use calls::{Call, Reply};
-use enquiry::{Enquiry, NotOpened};
+use enquiry::Enquiry;
 use ruleset::RuleSet;
 use std::alloc::Global;
 use std::test::Fail;
 
-fn calls_of(heap: Global, calls: &str) -> Result<Vec<Call>, Fail> {
-    let mut list = Vec::new(heap);
-    for call in calls.split(';') {
-        list.push(call_of(call)?)?;
-    }
-    Ok(list)
-}
-
-// The replies with `;` between them. Option 3 is yes at the start, and a letter stands for each of the four options.
-fn expect_replies(heap: Global, replies: &[Reply], wanted: &str) -> Result<(), Fail> {
-    let mut wanted = wanted.split(';');
-    for reply in replies {
-        let found = reply_words(heap, *reply, &[0, 1, 2, 3])?;
-        let words = wanted.next().ok_or("a reply too many")?;
-        expect_same(found.as_str(), words.trim(), "a reply of the list")?;
-    }
-    expect_same(wanted.next(), None, "a reply missing")
+// There is room for as many replies as are named here.
+struct Run {
+    calls: &'static [Call],
+    replies: &'static [&'static str],
+    then: &'static str,
 }
 
 // The calls are answered so, where every reply was `dead` before; the enquiry that is given then answers as wanted.
-fn expect_run(
-    heap: Global,
-    replies: &mut [Reply],
-    calls: &str,
-    wanted: &str,
-    then: &str,
-) -> Result<(), Fail> {
-    let calls = calls_of(heap, calls)?;
-    match Enquiry::run(
-        sample_steps()?,
-        4,
-        known("yes 3")?,
-        1,
-        calls.as_slice(),
-        replies,
-    ) {
+// Option 3 is yes at the start, and a letter stands for each of the four options.
+fn expect_run(heap: Global, run: &Run) -> Result<(), Fail> {
+    let mut replies = [Reply::Dead; 6];
+    let replies = replies.get_mut(..run.replies.len()).ok_or("no such room")?;
+    let enquiry = given(Enquiry::run(sample_steps()?, 4, known("yes 3")?, 1, run.calls, replies))?;
+    expect_replies(heap, replies, run.replies)?;
+    expect_all_calls(heap, enquiry, FOUR, run.then)
+}
+
+fn given<T, E: Drop>(found: Result<T, E>) -> Result<T, Fail> {
+    match found {
+        Ok(enquiry) => Ok(enquiry),
         Err(_) => Err(Fail::new("the enquiry is not opened")),
-        Ok(mut enquiry) => {
-            expect_replies(heap, replies, wanted)?;
-            expect_calls(heap, &mut enquiry, &[0, 1, 2, 3], then)
-        }
     }
+}
+
+fn expect_replies(heap: Global, replies: &[Reply], wanted: &[&str]) -> Result<(), Fail> {
+    for (line, words) in wanted.iter().enumerate() {
+        let reply = *replies.get(line).ok_or("a reply missing")?;
+        expect_reply(
+            heap,
+            line,
+            "a call of the list",
+            InWords { reply, shown: FOUR },
+            words,
+        )?;
+    }
+    Ok(())
 }
 
 #[test]
 fn as_many_replies_as_calls(rt: HostRuntime) -> Result<(), Fail> {
     expect_run(
         rt.alloc(),
-        &mut [Reply::Dead; 6],
-        "next 2; next 9; settle 3 no; settle 0 no; look; next 1",
-        "stopped 2; built yyny 1; refused 22; done; known n??y; stopped 1",
-        "next 9 | built nyny 1",
+        &Run {
+            calls: &[
+                Call::Next { budget: 2 },
+                Call::Next { budget: 9 },
+                Call::Settle {
+                    option: 3,
+                    value: false,
+                },
+                Call::Settle {
+                    option: 0,
+                    value: false,
+                },
+                Call::Look,
+                Call::Next { budget: 1 },
+            ],
+            replies: &[
+                "stopped 2",
+                "built yyny 1",
+                "refused 22",
+                "done",
+                "known n??y",
+                "stopped 1",
+            ],
+            then: "next 9 | built nyny 1",
+        },
     )
 }
+
+const MORE_ROOM: [Run; 2] = [
+    Run {
+        calls: &[Call::Back, Call::Next { budget: 9 }],
+        replies: &["refused 23", "built yyny 3", "dead", "dead"],
+        then: "next 9 | built ynny 1",
+    },
+    Run {
+        calls: &[Call::Next { budget: 2 }],
+        replies: &["stopped 2"],
+        then: "next 9 | built yyny 1",
+    },
+];
 
 #[test]
 fn room_for_more_replies(rt: HostRuntime) -> Result<(), Fail> {
-    let heap = rt.alloc();
-    expect_run(
-        heap,
-        &mut [Reply::Dead; 4],
-        "back; next 9",
-        "refused 23; built yyny 3; dead; dead",
-        "next 9 | built ynny 1",
-    )?;
-    expect_run(
-        heap,
-        &mut [Reply::Dead; 1],
-        "next 2",
-        "stopped 2",
-        "next 9 | built yyny 1",
-    )
+    for run in &MORE_ROOM {
+        expect_run(rt.alloc(), run)?;
+    }
+    Ok(())
 }
 
+const SIX_CALLS: &[Call] = &[
+    Call::Next { budget: 2 },
+    Call::Settle {
+        option: 1,
+        value: false,
+    },
+    Call::Look,
+    Call::Next { budget: 9 },
+    Call::Back,
+    Call::Back,
+];
+
 // The calls past the room are not made.
+const LESS_ROOM: [Run; 2] = [
+    Run {
+        calls: SIX_CALLS,
+        replies: &["stopped 2", "done"],
+        then: "look | known ?n?y\nback | done\nback | refused 23",
+    },
+    Run {
+        calls: SIX_CALLS,
+        replies: &["stopped 2"],
+        then: "next 9 | built yyny 1",
+    },
+];
+
 #[test]
 fn room_for_fewer_replies(rt: HostRuntime) -> Result<(), Fail> {
-    let heap = rt.alloc();
-    let calls = "next 2; settle 1 no; look; next 9; back; back";
-    expect_run(
-        heap,
-        &mut [Reply::Dead; 2],
-        calls,
-        "stopped 2; done",
-        "look | known ?n?y\nback | done\nback | refused 23",
-    )?;
-    expect_run(
-        heap,
-        &mut [Reply::Dead; 1],
-        calls,
-        "stopped 2",
-        "next 9 | built yyny 1",
-    )
+    for run in &LESS_ROOM {
+        expect_run(rt.alloc(), run)?;
+    }
+    Ok(())
 }
 
 fn expect_refused(
@@ -111,31 +141,35 @@ fn expect_refused(
     rule: u32,
     number: u8,
 ) -> Result<(), Fail> {
-    let calls = calls_of(heap, "next 2; look")?;
     let mut replies = [Reply::Done, Reply::Dead];
-    match Enquiry::run(
+    let calls = &[Call::Next { budget: 2 }, Call::Look];
+    let run = Enquiry::run(
         sample_steps()?,
         options,
         known(start)?,
         rule,
-        calls.as_slice(),
+        calls,
         &mut replies,
-    ) {
-        Ok(_) => Err(Fail::new("the enquiry is opened")),
-        Err(NotOpened { rules, refusal }) => {
-            expect_same(refusal.number(), number, start)?;
-            expect_replies(heap, &replies, "done; dead")?;
-            expect_same(rules.count(), 2, "the rules given back")?;
-            expect_same(rules.notes.asked, 0, "no question")
-        }
-    }
+    );
+    expect_replies(heap, &replies, &["done", "dead"])?;
+    let refused = run.err().ok_or("the enquiry is opened")?;
+    expect_same(refused.refusal.number(), number, start)?;
+    expect_same(refused.rules.count(), 2, "the rules given back")?;
+    expect_same(refused.rules.notes.asked, 0, "no question")
 }
+
+// The options, the start, the rule, and the number of the refusal.
+const NOT_OPENED: [(u32, &str, u32, u8); 4] = [
+    (65, "both 0", 2, 9),
+    (4, "both 4", 2, 7),
+    (4, "both 0", 2, 8),
+    (4, "yes 0", 2, 10),
+];
 
 #[test]
 fn not_opened(rt: HostRuntime) -> Result<(), Fail> {
-    let heap = rt.alloc();
-    expect_refused(heap, 65, "both 0", 2, 9)?;
-    expect_refused(heap, 4, "both 4", 2, 7)?;
-    expect_refused(heap, 4, "both 0", 2, 8)?;
-    expect_refused(heap, 4, "yes 0", 2, 10)
+    for (options, start, rule, number) in &NOT_OPENED {
+        expect_refused(rt.alloc(), *options, start, *rule, *number)?;
+    }
+    Ok(())
 }

@@ -1,9 +1,12 @@
 // Settlements: what fixes an option, and how many may stand.
-use crate::build::{clause_sheets, clauses, known, opened};
-use crate::expect::{expect_calls, expect_of_sample, expect_same};
+use crate::build::{NO_CLAUSES, bit, known, opened_sheet};
+use crate::expect::{expect_calls, expect_of_sample, expect_of_sheet, expect_same};
+use crate::words::EVERY_OPTION;
 use assignment::Assignment;
 use calls::CallRefusal;
-use listing::{Build, Progress};
+use enquiry::Enquiry;
+use ruleset::RuleSet;
+use std::alloc::Global;
 use std::test::Fail;
 
 #[test]
@@ -64,13 +67,11 @@ fn what_a_look_shows(rt: HostRuntime) -> Result<(), Fail> {
 // Options 0 and 1 are fixed at the start; the rule allows every build.
 #[test]
 fn fixed_at_the_start(rt: HostRuntime) -> Result<(), Fail> {
-    let heap = rt.alloc();
-    let bodies = clauses(heap, "no clauses")?;
-    let rules = clause_sheets(heap, bodies.as_slice())?;
-    let mut enquiry = opened(rules, 63, known("yes 0 no 1 4-61")?, 0)?;
-    expect_calls(
-        heap,
-        &mut enquiry,
+    expect_of_sheet(
+        rt.alloc(),
+        NO_CLAUSES,
+        63,
+        known("yes 0 no 1 4-61")?,
         &[0, 1, 2, 3, 62],
         "
         look | known yn???
@@ -96,38 +97,71 @@ fn fixed_at_the_start(rt: HostRuntime) -> Result<(), Fail> {
 // Every third option is yes.
 const THIRDS: u64 = 0x9249_2492_4924_9249;
 
-#[test]
-fn sixty_four_settlements(rt: HostRuntime) -> Result<(), Fail> {
-    let heap = rt.alloc();
-    let bodies = clauses(heap, "no clauses")?;
-    let rules = clause_sheets(heap, bodies.as_slice())?;
-    let mut enquiry = opened(rules, 64, known("nothing")?, 0)?;
+fn settle_each<R: RuleSet>(enquiry: &mut Enquiry<R>) -> Result<(), Fail> {
     for option in 0..64 {
         let settled = enquiry.settle(option, option % 3 == 0);
         expect_same(settled, Ok(()), "each option once")?;
     }
-    let all = Assignment::new(THIRDS, !THIRDS);
-    expect_same(enquiry.look(), Some(all), "all settled")?;
+    Ok(())
+}
+
+fn expect_each_fixed<R: RuleSet>(enquiry: &mut Enquiry<R>) -> Result<(), Fail> {
     for option in 0..64 {
-        for value in [true, false] {
-            let settled = enquiry.settle(option, value);
-            expect_same(settled, Err(CallRefusal::Fixed), "one more")?;
-        }
+        expect_same(
+            enquiry.settle(option, true),
+            Err(CallRefusal::Fixed),
+            "one more yes",
+        )?;
+        expect_same(
+            enquiry.settle(option, false),
+            Err(CallRefusal::Fixed),
+            "one more no",
+        )?;
     }
-    let beyond = enquiry.settle(64, true);
-    expect_same(beyond, Err(CallRefusal::NoOption), "one more")?;
-    let build = Build { yes: THIRDS };
-    let built = Progress::Built { build, opened: 0 };
-    expect_same(enquiry.next(0), built, "the only build")?;
-    expect_same(enquiry.next(0), Progress::End { opened: 0 }, "no other")?;
+    Ok(())
+}
+
+// The newest settlement falls, and the older ones stay.
+fn take_each_back<R: RuleSet>(enquiry: &mut Enquiry<R>) -> Result<(), Fail> {
     for option in (0..64).rev() {
         expect_same(enquiry.back(), Ok(()), "each settlement once")?;
-        let older = !u64::MAX.checked_shl(option).unwrap_or(0);
+        let older = bit(option).saturating_sub(1);
         let known = Assignment::new(THIRDS & older, !THIRDS & older);
         expect_same(enquiry.look(), Some(known), "the newest is dropped")?;
     }
-    let back = enquiry.back();
-    expect_same(back, Err(CallRefusal::NothingSettled), "no more")?;
-    let halted = Progress::Stopped { opened: 63 };
-    expect_same(enquiry.next(63), halted, "nothing settled")
+    Ok(())
+}
+
+// All 64 options are free, and the rule allows every build.
+fn expect_sixty_four<R: RuleSet + Drop>(heap: Global, enquiry: Enquiry<R>) -> Result<(), Fail> {
+    let mut enquiry = enquiry;
+    settle_each(&mut enquiry)?;
+    expect_each_fixed(&mut enquiry)?;
+    expect_calls(
+        heap,
+        &mut enquiry,
+        EVERY_OPTION,
+        "
+        look | known ynnynnynnynnynnynnynnynnynnynnynnynnynnynnynnynnynnynnynnynnynny
+        settle 64 yes | refused 21
+        next 0 | built ynnynnynnynnynnynnynnynnynnynnynnynnynnynnynnynnynnynnynnynnynny 0
+        next 0 | end 0
+        ",
+    )?;
+    take_each_back(&mut enquiry)?;
+    expect_calls(
+        heap,
+        &mut enquiry,
+        EVERY_OPTION,
+        "
+        back | refused 23
+        next 63 | stopped 63
+        ",
+    )
+}
+
+#[test]
+fn sixty_four_settlements(rt: HostRuntime) -> Result<(), Fail> {
+    let heap = rt.alloc();
+    expect_sixty_four(heap, opened_sheet(heap, NO_CLAUSES, 64, known("nothing")?)?)
 }

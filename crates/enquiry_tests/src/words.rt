@@ -1,9 +1,17 @@
 // Calls and replies as words.
+use crate::build::bit;
 use assignment::{Assignment, Value};
 use calls::{Call, Reply};
 use listing::Progress;
-use std::alloc::{AllocError, Global};
+use std::fmt;
 use std::test::Fail;
+
+// All options, to be shown.
+pub(crate) const EVERY_OPTION: &[u32; 64] = &[
+    0, 1, 2, 3, 4, 5, 6, 7, 8, 9, 10, 11, 12, 13, 14, 15, 16, 17, 18, 19, 20, 21, 22, 23, 24, 25,
+    26, 27, 28, 29, 30, 31, 32, 33, 34, 35, 36, 37, 38, 39, 40, 41, 42, 43, 44, 45, 46, 47, 48, 49,
+    50, 51, 52, 53, 54, 55, 56, 57, 58, 59, 60, 61, 62, 63,
+];
 
 // A call, as `settle 3 yes`, `back`, `again`, `look` or `next 2`.
 pub(crate) fn call_of(call: &str) -> Result<Call, Fail> {
@@ -35,50 +43,67 @@ fn value_of(word: &str) -> Result<bool, Fail> {
 
 // A reply, as `done`, `refused 22`, `known y?n`, `dead`, `built yyn 2`, `stopped 2` or `end 0`. A letter stands for
 // each option that is shown, and the number at the end is that of the choices that were opened.
-pub(crate) fn reply_words(heap: Global, reply: Reply, shown: &[u32]) -> Result<String, AllocError> {
-    match reply {
-        Reply::Done => String::from_str(heap, "done"),
-        Reply::Refused(refusal) => {
-            let number = refusal.number();
-            format!(in heap; "refused {number}")
+#[derive(Clone, Copy)]
+pub(crate) struct InWords<'a> {
+    pub(crate) reply: Reply,
+    pub(crate) shown: &'a [u32],
+}
+
+impl fmt::Display for InWords<'_> {
+    fn fmt<W: fmt::Write>(&self, f: &mut fmt::Formatter<W>) -> fmt::Result {
+        let shown = self.shown;
+        match self.reply {
+            Reply::Done => f.write_str("done"),
+            Reply::Refused(refusal) => write!(f, "refused {}", refusal.number()),
+            Reply::Known(known) => write!(f, "known {}", Letters { known, shown }),
+            Reply::Dead => f.write_str("dead"),
+            Reply::Listed(progress) => write_progress(f, progress, shown),
         }
-        Reply::Known(known) => {
-            let letters = letters_of(heap, known, shown)?;
-            format!(in heap; "known {letters}")
-        }
-        Reply::Dead => String::from_str(heap, "dead"),
-        Reply::Listed(progress) => progress_words(heap, progress, shown),
     }
 }
 
-fn progress_words(heap: Global, progress: Progress, shown: &[u32]) -> Result<String, AllocError> {
+fn write_progress<W: fmt::Write>(
+    f: &mut fmt::Formatter<W>,
+    progress: Progress,
+    shown: &[u32],
+) -> fmt::Result {
     match progress {
         Progress::Built { build, opened } => {
-            let letters = letters_of(heap, Assignment::new(build.yes, !build.yes), shown)?;
-            format!(in heap; "built {letters} {opened}")
+            let known = Assignment::new(build.yes, !build.yes);
+            write!(f, "built {} {opened}", Letters { known, shown })
         }
-        Progress::Stopped { opened } => format!(in heap; "stopped {opened}"),
-        Progress::End { opened } => format!(in heap; "end {opened}"),
+        Progress::Stopped { opened } => write!(f, "stopped {opened}"),
+        Progress::End { opened } => write!(f, "end {opened}"),
     }
 }
 
 // The letters `y`, `n`, `?` for unknown and `!` for inconsistent. All options that are not shown should be no; where
 // one is not, a `+` is put behind.
-fn letters_of(heap: Global, known: Assignment, shown: &[u32]) -> Result<String, AllocError> {
-    let mut letters = String::new(heap);
-    let mut beside = known;
-    for option in shown {
-        letters.push(match known.value(*option) {
-            Value::Yes => 'y',
-            Value::No => 'n',
-            Value::Unknown => '?',
-            Value::Inconsistent => '!',
-        })?;
-        let bit = 1u64.checked_shl(*option).unwrap_or(0);
-        beside = Assignment::new(beside.yes_mask() & !bit, beside.no_mask() | bit);
+#[derive(Clone, Copy)]
+struct Letters<'a> {
+    known: Assignment,
+    shown: &'a [u32],
+}
+
+impl fmt::Display for Letters<'_> {
+    fn fmt<W: fmt::Write>(&self, f: &mut fmt::Formatter<W>) -> fmt::Result {
+        let mut others = u64::MAX;
+        for option in self.shown {
+            f.write_str(letter_of(self.known.value(*option)))?;
+            others &= !bit(*option);
+        }
+        if self.known.yes_mask() & others != 0 || self.known.no_mask() & others != others {
+            f.write_str("+")?;
+        }
+        Ok(())
     }
-    if beside != Assignment::new(0, u64::MAX) {
-        letters.push('+')?;
+}
+
+fn letter_of(value: Value) -> &'static str {
+    match value {
+        Value::Yes => "y",
+        Value::No => "n",
+        Value::Unknown => "?",
+        Value::Inconsistent => "!",
     }
-    Ok(letters)
 }
