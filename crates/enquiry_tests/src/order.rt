@@ -33,14 +33,18 @@ fn first_unknown_options() -> Result<(), Fail> {
     Ok(())
 }
 
+const SELLING_ORDER: [u8; 64] = [
+    32, 33, 34, 35, 36, 37, 38, 39, 40, 41, 42, 43, 44, 45, 46, 47, 16, 17, 18, 19, 20, 21, 22, 23,
+    24, 25, 26, 27, 28, 29, 30, 31, 0, 1, 2, 3, 4, 5, 6, 7, 8, 9, 10, 11, 12, 13, 14, 15, 48, 49,
+    50, 51, 52, 53, 54, 55, 56, 57, 58, 59, 60, 61, 62, 63,
+];
+
 #[test]
 fn each_option_in_turn() -> Result<(), Fail> {
     let mut known = Assignment::new(0, 0);
-    for block in [32..48u8, 16..32, 0..16, 48..64] {
-        for option in block {
-            expect_same(first_unknown(known), Some(option), "the next option")?;
-            known = known.with(u32::from(option), option % 3 == 0);
-        }
+    for option in &SELLING_ORDER {
+        expect_same(first_unknown(known), Some(*option), "the next option")?;
+        known = known.with(u32::from(*option), option % 3 == 0);
     }
     expect_same(first_unknown(known), None, "all known")
 }

@@ -132,14 +132,12 @@ fn take_each_back<R: RuleSet>(enquiry: &mut Enquiry<R>) -> Result<(), Fail> {
     Ok(())
 }
 
-// All 64 options are free, and the rule allows every build.
-fn expect_sixty_four<R: RuleSet + Drop>(heap: Global, enquiry: Enquiry<R>) -> Result<(), Fail> {
-    let mut enquiry = enquiry;
-    settle_each(&mut enquiry)?;
-    expect_each_fixed(&mut enquiry)?;
+fn expect_sixty_four<R: RuleSet>(heap: Global, enquiry: &mut Enquiry<R>) -> Result<(), Fail> {
+    settle_each(enquiry)?;
+    expect_each_fixed(enquiry)?;
     expect_calls(
         heap,
-        &mut enquiry,
+        enquiry,
         EVERY_OPTION,
         "
         look | known ynnynnynnynnynnynnynnynnynnynnynnynnynnynnynnynnynnynnynnynnynny
@@ -148,10 +146,10 @@ fn expect_sixty_four<R: RuleSet + Drop>(heap: Global, enquiry: Enquiry<R>) -> Re
         next 0 | end 0
         ",
     )?;
-    take_each_back(&mut enquiry)?;
+    take_each_back(enquiry)?;
     expect_calls(
         heap,
-        &mut enquiry,
+        enquiry,
         EVERY_OPTION,
         "
         back | refused 23
@@ -160,8 +158,10 @@ fn expect_sixty_four<R: RuleSet + Drop>(heap: Global, enquiry: Enquiry<R>) -> Re
     )
 }
 
+// All 64 options are free, and the rule allows every build.
 #[test]
 fn sixty_four_settlements(rt: HostRuntime) -> Result<(), Fail> {
     let heap = rt.alloc();
-    expect_sixty_four(heap, opened_sheet(heap, NO_CLAUSES, 64, known("nothing")?)?)
+    let mut enquiry = opened_sheet(heap, NO_CLAUSES, 64, known("nothing")?)?;
+    expect_sixty_four(heap, &mut enquiry)
 }

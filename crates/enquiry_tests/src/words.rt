@@ -16,27 +16,31 @@ pub(crate) const EVERY_OPTION: &[u32; 64] = &[
 // A call, as `settle 3 yes`, `back`, `again`, `look` or `next 2`.
 pub(crate) fn call_of(call: &str) -> Result<Call, Fail> {
     let mut words = call.split_whitespace();
-    match words.next().ok_or("no call")? {
-        "settle" => {
-            let option = words.next().ok_or("no option")?.parse::<u32>()?;
-            let value = value_of(words.next().ok_or("no value")?)?;
+    match words.next() {
+        Some("settle") => {
+            let option = number_of(words.next())?;
+            let value = value_of(words.next())?;
             Ok(Call::Settle { option, value })
         }
-        "back" => Ok(Call::Back),
-        "again" => Ok(Call::Again),
-        "look" => Ok(Call::Look),
-        "next" => {
-            let budget = words.next().ok_or("no budget")?.parse::<u32>()?;
+        Some("back") => Ok(Call::Back),
+        Some("again") => Ok(Call::Again),
+        Some("look") => Ok(Call::Look),
+        Some("next") => {
+            let budget = number_of(words.next())?;
             Ok(Call::Next { budget })
         }
         _ => Err(Fail::new("no such call")),
     }
 }
 
-fn value_of(word: &str) -> Result<bool, Fail> {
+fn number_of(word: Option<&str>) -> Result<u32, Fail> {
+    Ok(word.ok_or("no number")?.parse::<u32>()?)
+}
+
+fn value_of(word: Option<&str>) -> Result<bool, Fail> {
     match word {
-        "yes" => Ok(true),
-        "no" => Ok(false),
+        Some("yes") => Ok(true),
+        Some("no") => Ok(false),
         _ => Err(Fail::new("neither yes nor no")),
     }
 }
@@ -51,13 +55,15 @@ pub(crate) struct InWords<'a> {
 
 impl fmt::Display for InWords<'_> {
     fn fmt<W: fmt::Write>(&self, f: &mut fmt::Formatter<W>) -> fmt::Result {
-        let shown = self.shown;
         match self.reply {
             Reply::Done => f.write_str("done"),
             Reply::Refused(refusal) => write!(f, "refused {}", refusal.number()),
-            Reply::Known(known) => write!(f, "known {}", Letters { known, shown }),
+            Reply::Known(known) => {
+                f.write_str("known ")?;
+                write_letters(f, known, self.shown)
+            }
             Reply::Dead => f.write_str("dead"),
-            Reply::Listed(progress) => write_progress(f, progress, shown),
+            Reply::Listed(progress) => write_progress(f, progress, self.shown),
         }
     }
 }
@@ -69,8 +75,9 @@ fn write_progress<W: fmt::Write>(
 ) -> fmt::Result {
     match progress {
         Progress::Built { build, opened } => {
-            let known = Assignment::new(build.yes, !build.yes);
-            write!(f, "built {} {opened}", Letters { known, shown })
+            f.write_str("built ")?;
+            write_letters(f, Assignment::new(build.yes, !build.yes), shown)?;
+            write!(f, " {opened}")
         }
         Progress::Stopped { opened } => write!(f, "stopped {opened}"),
         Progress::End { opened } => write!(f, "end {opened}"),
@@ -79,24 +86,20 @@ fn write_progress<W: fmt::Write>(
 
 // The letters `y`, `n`, `?` for unknown and `!` for inconsistent. All options that are not shown should be no; where
 // one is not, a `+` is put behind.
-#[derive(Clone, Copy)]
-struct Letters<'a> {
+fn write_letters<W: fmt::Write>(
+    f: &mut fmt::Formatter<W>,
     known: Assignment,
-    shown: &'a [u32],
-}
-
-impl fmt::Display for Letters<'_> {
-    fn fmt<W: fmt::Write>(&self, f: &mut fmt::Formatter<W>) -> fmt::Result {
-        let mut others = u64::MAX;
-        for option in self.shown {
-            f.write_str(letter_of(self.known.value(*option)))?;
-            others &= !bit(*option);
-        }
-        if self.known.yes_mask() & others != 0 || self.known.no_mask() & others != others {
-            f.write_str("+")?;
-        }
-        Ok(())
+    shown: &[u32],
+) -> fmt::Result {
+    let mut others = u64::MAX;
+    for option in shown {
+        f.write_str(letter_of(known.value(*option)))?;
+        others &= !bit(*option);
     }
+    if known.yes_mask() & others != 0 || known.no_mask() & others != others {
+        f.write_str("+")?;
+    }
+    Ok(())
 }
 
 fn letter_of(value: Value) -> &'static str {
