@@ -16,47 +16,60 @@ const NO_IS_WANTED: u8 = 128;
 
 pub(crate) fn encode(heap: Global, contents: &Contents) -> Result<Vec<u8>, AllocError> {
     let mut file = Vec::new(heap);
-    add_record(&mut file, START, &start_body(heap, contents.start)?)?;
-    for table in &contents.tables {
-        add_record(&mut file, TABLE, &table_body(heap, table)?)?;
-    }
-    for sheet in &contents.clauses {
-        add_record(&mut file, CLAUSES, &clauses_body(heap, sheet)?)?;
-    }
-    for folder in &contents.folders {
-        add_record(&mut file, FOLDER, &folder_body(heap, folder)?)?;
-    }
-    add_record(&mut file, QUESTION, &[contents.asked])?;
+    add_records(&mut file, &mut Vec::new(heap), contents)?;
     Ok(file)
 }
 
-fn add_record(file: &mut Vec<u8>, kind: u16, body: &[u8]) -> Result<(), AllocError> {
+// Each body is made by itself, since its length stands before it.
+fn add_records(
+    file: &mut Vec<u8>,
+    body: &mut Vec<u8>,
+    contents: &Contents,
+) -> Result<(), AllocError> {
+    make_start(body, contents.start)?;
+    add_record(file, START, body)?;
+    for table in &contents.tables {
+        make_table(body, table)?;
+        add_record(file, TABLE, body)?;
+    }
+    for sheet in &contents.clauses {
+        make_clauses(body, sheet)?;
+        add_record(file, CLAUSES, body)?;
+    }
+    for folder in &contents.folders {
+        make_folder(body, folder)?;
+        add_record(file, FOLDER, body)?;
+    }
+    body.push(contents.asked)?;
+    add_record(file, QUESTION, body)
+}
+
+// Adds a record with this body, which is then empty.
+fn add_record(file: &mut Vec<u8>, kind: u16, body: &mut Vec<u8>) -> Result<(), AllocError> {
     let length = u16::try_from(body.len()).unwrap_or(u16::MAX);
     file.extend_from_slice(&length.to_le_bytes())?;
     file.extend_from_slice(&kind.to_le_bytes())?;
-    file.extend_from_slice(body)
+    file.extend_from_slice(body)?;
+    body.clear();
+    Ok(())
 }
 
-fn start_body(heap: Global, start: Start) -> Result<Vec<u8>, AllocError> {
-    let mut body = Vec::new(heap);
+fn make_start(body: &mut Vec<u8>, start: Start) -> Result<(), AllocError> {
     body.push(start.options)?;
     body.extend_from_slice(&start.yes.to_le_bytes())?;
-    body.extend_from_slice(&start.no.to_le_bytes())?;
-    Ok(body)
+    body.extend_from_slice(&start.no.to_le_bytes())
 }
 
-fn table_body(heap: Global, table: &Table) -> Result<Vec<u8>, AllocError> {
-    let mut body = Vec::new(heap);
+fn make_table(body: &mut Vec<u8>, table: &Table) -> Result<(), AllocError> {
     body.push(byte_count(table.columns.len()))?;
     body.extend_from_slice(&table.columns)?;
     for row in &table.rows {
         body.extend_from_slice(&row.to_le_bytes())?;
     }
-    Ok(body)
+    Ok(())
 }
 
-fn clauses_body(heap: Global, clauses: &[Clause]) -> Result<Vec<u8>, AllocError> {
-    let mut body = Vec::new(heap);
+fn make_clauses(body: &mut Vec<u8>, clauses: &[Clause]) -> Result<(), AllocError> {
     for clause in clauses {
         body.push(byte_count(clause.len()))?;
         for wanted in clause {
@@ -64,17 +77,16 @@ fn clauses_body(heap: Global, clauses: &[Clause]) -> Result<Vec<u8>, AllocError>
             body.push(wanted.option | sign)?;
         }
     }
-    Ok(body)
+    Ok(())
 }
 
-fn folder_body(heap: Global, folder: &Folder) -> Result<Vec<u8>, AllocError> {
-    let mut body = Vec::new(heap);
+fn make_folder(body: &mut Vec<u8>, folder: &Folder) -> Result<(), AllocError> {
     for entry in folder {
         let (small, word) = fields(*entry);
         body.extend_from_slice(&small)?;
         body.extend_from_slice(&word.to_le_bytes())?;
     }
-    Ok(body)
+    Ok(())
 }
 
 // The op, its three fields of a byte, and its word.

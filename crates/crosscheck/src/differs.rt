@@ -1,6 +1,8 @@
 // Something was found that the words do not promise.
-use calls::{CallRefusal, Reply};
+use calls::Reply;
 use std::alloc::{AllocError, AllocFailed, Global};
+use std::fmt;
+use std::fmt::Display;
 
 /// Why the trial of a file ends early.
 #[derive(Drop)]
@@ -21,29 +23,33 @@ impl<T: Drop> From<AllocFailed<T>> for Stop {
     }
 }
 
-pub(crate) fn differs(expected: String, found: String) -> Result<(), Stop> {
+/// Something else was found than what was expected.
+pub(crate) fn differs<T, E: Display + Drop, F: Display + Drop>(
+    heap: Global,
+    expected: E,
+    found: F,
+) -> Result<T, Stop> {
+    let expected = format!(in heap; "{expected}")?;
+    let found = format!(in heap; "{found}")?;
     Err(Stop::Differs { expected, found })
 }
 
 /// A reply in words.
-pub(crate) fn show_reply(heap: Global, reply: Reply) -> Result<String, AllocError> {
-    match reply {
-        Reply::Done => format!(in heap; "done"),
-        Reply::Refused(refusal) => show_refusal(heap, refusal),
-        Reply::Known(known) => {
-            let yes = known.yes_mask();
-            let no = known.no_mask();
-            show_known(heap, yes, no)
+#[derive(Clone, Copy)]
+pub(crate) struct Shown(pub(crate) Reply);
+
+impl Display for Shown {
+    fn fmt<W: fmt::Write>(&self, f: &mut fmt::Formatter<W>) -> fmt::Result {
+        match self.0 {
+            Reply::Done => f.write_str("done"),
+            Reply::Refused(refusal) => write!(f, "refused {refusal:?}"),
+            Reply::Known(known) => {
+                let yes = known.yes_mask();
+                let no = known.no_mask();
+                write!(f, "known yes {yes:#x} and no {no:#x}")
+            }
+            Reply::Dead => f.write_str("no build left"),
+            Reply::Listed(progress) => write!(f, "{progress:?}"),
         }
-        Reply::Dead => format!(in heap; "no build left"),
-        Reply::Listed(progress) => format!(in heap; "{progress:?}"),
     }
-}
-
-pub(crate) fn show_refusal(heap: Global, refusal: CallRefusal) -> Result<String, AllocError> {
-    format!(in heap; "refused {refusal:?}")
-}
-
-pub(crate) fn show_known(heap: Global, yes: u64, no: u64) -> Result<String, AllocError> {
-    format!(in heap; "known yes {yes:#x} and no {no:#x}")
 }

@@ -1,6 +1,7 @@
 // Opening an enquiry on a file that has to be accepted.
 use crate::buyer::Settled;
-use crate::differs::{Stop, show_refusal};
+use crate::differs::{Shown, Stop, differs};
+use calls::Reply;
 use file_enquiry::{FileEnquiry, FileSpace, open_file};
 use std::alloc::Global;
 
@@ -10,21 +11,23 @@ pub(crate) fn fresh<'a>(
     bytes: &'a [u8],
     settled: &[Settled],
 ) -> Result<FileEnquiry<'a>, Stop> {
-    let space = FileSpace::reserve(heap)?;
-    let mut enquiry = match open_file(space, bytes) {
-        Ok(enquiry) => enquiry,
-        Err(fault) => {
-            let expected = format!(in heap; "an accepted file")?;
-            let found = format!(in heap; "{fault}")?;
-            return Err(Stop::Differs { expected, found });
-        }
-    };
+    match open_file(FileSpace::reserve(heap)?, bytes) {
+        Ok(enquiry) => settled_alike(heap, enquiry, settled),
+        Err(fault) => differs(heap, "an accepted file", fault),
+    }
+}
+
+fn settled_alike<'a>(
+    heap: Global,
+    enquiry: FileEnquiry<'a>,
+    settled: &[Settled],
+) -> Result<FileEnquiry<'a>, Stop> {
+    let mut enquiry = enquiry;
     for settlement in settled {
         let done = enquiry.settle(u32::from(settlement.option), settlement.value);
         if let Err(refusal) = done {
-            let expected = format!(in heap; "settled in a fresh enquiry")?;
-            let found = show_refusal(heap, refusal)?;
-            return Err(Stop::Differs { expected, found });
+            let found = Shown(Reply::Refused(refusal));
+            return differs(heap, "settled in a fresh enquiry", found);
         }
     }
     Ok(enquiry)

@@ -2,7 +2,7 @@
 use crate::builds::offered;
 use crate::bytes::encode;
 use crate::calling::{make_call, make_next};
-use crate::contents::Start;
+use crate::contents::{Contents, Start};
 use crate::differs::{Stop, differs};
 use crate::generate::generate;
 use crate::random::Random;
@@ -20,19 +20,40 @@ const MOST_NEXTS: u32 = 100_000;
 pub(crate) fn try_file(heap: Global, number: u64, counts: &mut Tally) -> Result<(), Stop> {
     let mut random = Random::new(number);
     let contents = generate(heap, &mut random)?;
-    let bytes = encode(heap, &contents)?;
-    let builds = offered(heap, &contents)?;
+    try_contents(heap, &mut random, &contents, counts)
+}
+
+fn try_contents(
+    heap: Global,
+    random: &mut Random,
+    contents: &Contents,
+    counts: &mut Tally,
+) -> Result<(), Stop> {
+    let bytes = encode(heap, contents)?;
+    let builds = offered(heap, contents)?;
     counts.add_file(builds.len());
     let mut trial = Trial::open(heap, &bytes, contents.start, &builds)?;
-    call_around(&mut random, &mut trial, contents.start, counts)?;
-    if random.chance(50) {
-        take_all_back(&mut trial, counts)?;
-    }
-    list_to_end(heap, &mut random, &mut trial, counts)?;
-    if random.chance(30) {
-        call_around(&mut random, &mut trial, contents.start, counts)?;
-    }
+    call_and_list(heap, random, &mut trial, contents.start, counts)?;
     trial.close()
+}
+
+// All calls of one trial.
+fn call_and_list(
+    heap: Global,
+    random: &mut Random,
+    trial: &mut Trial,
+    start: Start,
+    counts: &mut Tally,
+) -> Result<(), Stop> {
+    call_around(random, trial, start, counts)?;
+    if random.chance(50) {
+        take_all_back(trial, counts)?;
+    }
+    list_to_end(heap, random, trial, counts)?;
+    if random.chance(30) {
+        call_around(random, trial, start, counts)?;
+    }
+    Ok(())
 }
 
 // Calls of all kinds.
@@ -71,8 +92,6 @@ fn list_to_end(
             return Ok(());
         }
     }
-    differs(
-        format!(in heap; "an end of the listing")?,
-        format!(in heap; "none after {MOST_NEXTS} calls")?,
-    )
+    let found = format_args!("none after {MOST_NEXTS} calls");
+    differs(heap, "an end of the listing", found)
 }

@@ -47,12 +47,15 @@ impl Tally {
 
     pub(crate) fn write<W: Write>(&self, out: &mut W) -> io::Result<()> {
         let agreed = self.files.saturating_sub(self.differing);
-        writeln!(out, "files {}", self.files)?;
-        writeln!(out, "without builds {}", self.without)?;
-        writeln!(out, "with up to {FEW} builds {}", self.with_few)?;
-        writeln!(out, "with more builds {}", self.with_more)?;
-        writeln!(out, "calls {}", self.calls)?;
-        writeln!(out, "builds listed {}", self.listed)?;
-        writeln!(out, "agreed {agreed}")
+        writeln!(
+            out,
+            "files {}\nwithout builds {}\nwith up to {FEW} builds {}\nwith more builds {}",
+            self.files, self.without, self.with_few, self.with_more
+        )?;
+        writeln!(
+            out,
+            "calls {}\nbuilds listed {}\nagreed {agreed}",
+            self.calls, self.listed
+        )
     }
 }

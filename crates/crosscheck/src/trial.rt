@@ -1,7 +1,7 @@
 // One file tried: what its enquiry answers is held against what the words promise.
 use crate::buyer::Buyer;
 use crate::contents::Start;
-use crate::differs::{Stop, differs, show_refusal, show_reply};
+use crate::differs::{Shown, Stop, differs};
 use crate::opening::fresh;
 use crate::tally::Tally;
 use calls::{Call, CallRefusal, Reply};
@@ -73,10 +73,7 @@ impl<'a> Trial<'a> {
             Call::Look => self.judge_look(reply),
             Call::Next { budget } => match reply {
                 Reply::Listed(progress) => self.judge_listed(budget, progress),
-                _ => differs(
-                    format!(in self.heap; "a listing")?,
-                    show_reply(self.heap, reply)?,
-                ),
+                _ => differs(self.heap, "a listing", Shown(reply)),
             },
         }
     }
@@ -84,15 +81,12 @@ impl<'a> Trial<'a> {
     fn judge_done(&mut self, expected: Result<(), CallRefusal>, reply: Reply) -> Result<(), Stop> {
         match (expected, reply) {
             (Ok(()), Reply::Done) => self.begin(),
-            (Ok(()), _) => differs(
-                format!(in self.heap; "done")?,
-                show_reply(self.heap, reply)?,
-            ),
+            (Ok(()), _) => differs(self.heap, "done", Shown(reply)),
             (Err(refusal), Reply::Refused(found)) if found == refusal => Ok(()),
-            (Err(refusal), _) => differs(
-                show_refusal(self.heap, refusal)?,
-                show_reply(self.heap, reply)?,
-            ),
+            (Err(refusal), _) => {
+                let expected = Shown(Reply::Refused(refusal));
+                differs(self.heap, expected, Shown(reply))
+            }
         }
     }
 
@@ -115,16 +109,16 @@ impl<'a> Trial<'a> {
         if promised && known_masks(reply) == known_masks(twin) {
             return Ok(());
         }
-        let fresh = show_reply(self.heap, twin)?;
-        let expected = format!(in self.heap; "a look true of the builds, as the fresh {fresh}")?;
-        differs(expected, show_reply(self.heap, reply)?)
+        let fresh = Shown(twin);
+        let expected = format_args!("a look true of the builds, as the fresh {fresh}");
+        differs(self.heap, expected, Shown(reply))
     }
 
     fn judge_listed(&mut self, budget: u32, progress: Progress) -> Result<(), Stop> {
         if !self.may_come_to(budget, progress) {
             let upcoming = self.buyer.upcoming();
-            let expected = format!(in self.heap; "{upcoming:?} next, or a stop at {budget}")?;
-            return differs(expected, format!(in self.heap; "{progress:?}")?);
+            let expected = format_args!("{upcoming:?} next, or a stop at {budget}");
+            return differs(self.heap, expected, format_args!("{progress:?}"));
         }
         match progress {
             Progress::Stopped { opened } => {
@@ -162,20 +156,29 @@ impl<'a> Trial<'a> {
         if at_once == together {
             return Ok(());
         }
-        let expected = format!(in self.heap; "{at_once:?} as at once")?;
-        differs(expected, format!(in self.heap; "{together:?} in portions")?)
+        let expected = format_args!("{at_once:?} as at once");
+        differs(
+            self.heap,
+            expected,
+            format_args!("{together:?} in portions"),
+        )
     }
 
     /// Closes the enquiry, which gives the last build that was listed.
     pub(crate) fn close(self) -> Result<(), Stop> {
         let expected = self.buyer.last();
-        let last = self.enquiry.close().last.map(|build| build.yes);
-        if last == expected {
-            return Ok(());
-        }
-        let expected = format!(in self.heap; "{expected:?} as the last build")?;
-        differs(expected, format!(in self.heap; "{last:?}")?)
+        let heap = self.heap;
+        let last = self.enquiry.close().last;
+        judge_last(heap, expected, last.map(|build| build.yes))
     }
+}
+
+fn judge_last(heap: Global, expected: Option<u64>, last: Option<u64>) -> Result<(), Stop> {
+    if last == expected {
+        return Ok(());
+    }
+    let expected = format_args!("{expected:?} as the last build");
+    differs(heap, expected, format_args!("{last:?}"))
 }
 
 // The masks of what is known; nothing where no build is left.

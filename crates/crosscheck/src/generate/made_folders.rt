@@ -50,14 +50,20 @@ fn make_entry(random: &mut Random, theme: &Theme, below: u8) -> Entry {
     if below == 0 {
         return Entry::None;
     }
-    let rule = random.byte_below(below);
+    let first = random.byte_below(below);
     let second = random.byte_below(below);
-    let first = rule;
     match random.below(100) {
-        0..=14 => Entry::Carry { rule },
+        0..=14 => Entry::Carry { rule: first },
         15..=33 => Entry::Product { first, second },
         34..=52 => Entry::Either { first, second },
-        53..=68 => make_selection(random, theme, rule),
+        share => make_changed(random, theme, first, share),
+    }
+}
+
+// An entry that changes what a rule allows, by what is left of the shares.
+fn make_changed(random: &mut Random, theme: &Theme, rule: u8, share: u32) -> Entry {
+    match share {
+        ..=68 => make_selection(random, theme, rule),
         69..=84 => make_projection(random, theme, rule),
         85..=95 => Entry::Complement { rule },
         _ => Entry::None,

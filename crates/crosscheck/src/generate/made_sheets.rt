@@ -53,8 +53,12 @@ fn make_table(heap: Global, random: &mut Random, theme: &Theme) -> Result<Table,
 // The values of a build in the columns.
 fn row_of(columns: &[u8], build: u64) -> u16 {
     let mut row = 0u16;
-    for column in columns.iter().rev() {
-        row = row.wrapping_mul(2) | u16::from(has(build, *column));
+    let mut bit = 1u16;
+    for column in columns {
+        if has(build, *column) {
+            row |= bit;
+        }
+        bit = bit.wrapping_mul(2);
     }
     row
 }
@@ -89,12 +93,12 @@ fn make_clause(heap: Global, random: &mut Random, theme: &Theme) -> Result<Claus
     let count = random.below(MOST_WANTED).wrapping_add(1);
     let mask = theme.options(random, count);
     let mut clause = Vec::new(heap);
-    for option in rising(heap, mask)? {
-        let likely = random.chance(80);
-        clause.push(Wanted {
-            option,
-            value: has(theme.sample, option) == likely,
-        })?;
+    for option in 0..64u8 {
+        if has(mask, option) {
+            let likely = random.chance(80);
+            let value = has(theme.sample, option) == likely;
+            clause.push(Wanted { option, value })?;
+        }
     }
     Ok(clause)
 }
