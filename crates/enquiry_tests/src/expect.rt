@@ -47,27 +47,17 @@ pub(crate) fn expect_calls<R: RuleSet>(
     calls: &str,
 ) -> Result<(), Fail> {
     for (line, text) in calls.trim().lines().enumerate() {
-        expect_line(heap, enquiry, shown, line, text)?;
+        let (call, wanted) = text.split_once('|').ok_or("no reply")?;
+        let reply = enquiry.answer(call_of(call)?);
+        expect_reply(
+            heap,
+            line,
+            call.trim(),
+            InWords { reply, shown },
+            wanted.trim(),
+        )?;
     }
     Ok(())
-}
-
-fn expect_line<R: RuleSet>(
-    heap: Global,
-    enquiry: &mut Enquiry<R>,
-    shown: &[u32],
-    line: usize,
-    text: &str,
-) -> Result<(), Fail> {
-    let (call, wanted) = text.split_once('|').ok_or("no reply")?;
-    let reply = enquiry.answer(call_of(call)?);
-    expect_reply(
-        heap,
-        line,
-        call.trim(),
-        InWords { reply, shown },
-        wanted.trim(),
-    )
 }
 
 // The same on an enquiry that is then closed.
@@ -167,13 +157,14 @@ fn has_ended<R: RuleSet>(
     match progress {
         Progress::Stopped { .. } => Ok(false),
         Progress::Built { build, .. } => {
-            expect_same(Some(&build.yes), left.builds.first(), "the next build")?;
-            left.builds = left.builds.get(1..).unwrap_or(&[]);
+            let (wanted, others) = left.builds.split_first().ok_or("a build too many")?;
+            left.builds = others;
+            expect_same(build.yes, *wanted, "the next build")?;
             Ok(false)
         }
         Progress::End { .. } => {
-            let left = (left.builds.len(), left.choices);
-            expect_same(left, (0, 0), "builds and choices left at the end")?;
+            expect_same(left.builds.len(), 0, "builds left at the end")?;
+            expect_same(left.choices, 0, "choices left at the end")?;
             Ok(true)
         }
     }
