@@ -22,43 +22,60 @@ fn expect_none_of(lines: &[&str]) -> Result<(), Fail> {
     Ok(())
 }
 
-// The number is written so, after `settle` and after `next`.
-fn expect_number(settle: &str, next: &str, number: u32) -> Result<(), Fail> {
-    let settled = Call::Settle {
-        option: number,
-        value: true,
-    };
-    expect_call(settle, settled)?;
-    expect_call(next, Call::Next { budget: number })
+// None of the lines, each behind what it is about, is a command.
+fn expect_none_of_bytes(lines: &[(&str, &[u8])]) -> Result<(), Fail> {
+    for (about, line) in lines {
+        expect_none(about, line)?;
+    }
+    Ok(())
 }
 
+// Lines that settle, with the option and the value.
+const SETTLES: [(&str, u32, bool); 11] = [
+    ("settle 0 no", 0, false),
+    ("settle 63 no", 63, false),
+    ("settle 4294967295 no", 4294967295, false),
+    ("settle 0 yes", 0, true),
+    ("settle 1 yes", 1, true),
+    ("settle 9 yes", 9, true),
+    ("settle 10 yes", 10, true),
+    ("settle 64 yes", 64, true),
+    ("settle 1000000000 yes", 1000000000, true),
+    ("settle 1234567890 yes", 1234567890, true),
+    ("settle 4294967295 yes", 4294967295, true),
+];
+
 #[test]
-fn commands() -> Result<(), Fail> {
-    expect_call("back", Call::Back)?;
-    expect_call("again", Call::Again)?;
-    expect_call("look", Call::Look)?;
-    for (line, option) in [
-        ("settle 0 no", 0),
-        ("settle 63 no", 63),
-        ("settle 4294967295 no", 4294967295),
-    ] {
+fn settle() -> Result<(), Fail> {
+    for (line, option, value) in &SETTLES {
         let call = Call::Settle {
-            option,
-            value: false,
+            option: *option,
+            value: *value,
         };
         expect_call(line, call)?;
     }
-    for (settle, next, number) in [
-        ("settle 0 yes", "next 0", 0),
-        ("settle 1 yes", "next 1", 1),
-        ("settle 9 yes", "next 9", 9),
-        ("settle 10 yes", "next 10", 10),
-        ("settle 64 yes", "next 64", 64),
-        ("settle 1000000000 yes", "next 1000000000", 1000000000),
-        ("settle 1234567890 yes", "next 1234567890", 1234567890),
-        ("settle 4294967295 yes", "next 4294967295", 4294967295),
-    ] {
-        expect_number(settle, next, number)?;
+    Ok(())
+}
+
+// The other commands, with their calls.
+const OTHERS: [(&str, Call); 11] = [
+    ("back", Call::Back),
+    ("again", Call::Again),
+    ("look", Call::Look),
+    ("next 0", Call::Next { budget: 0 }),
+    ("next 1", Call::Next { budget: 1 }),
+    ("next 9", Call::Next { budget: 9 }),
+    ("next 10", Call::Next { budget: 10 }),
+    ("next 64", Call::Next { budget: 64 }),
+    ("next 1000000000", Call::Next { budget: 1000000000 }),
+    ("next 1234567890", Call::Next { budget: 1234567890 }),
+    ("next 4294967295", Call::Next { budget: 4294967295 }),
+];
+
+#[test]
+fn other_commands() -> Result<(), Fail> {
+    for (line, call) in &OTHERS {
+        expect_call(line, *call)?;
     }
     Ok(())
 }
@@ -227,28 +244,34 @@ fn numbers() -> Result<(), Fail> {
 
 #[test]
 fn no_text() -> Result<(), Fail> {
-    expect_none("byte FF", b"\xFF")?;
-    expect_none("FF before", b"\xFFback")?;
-    expect_none("FF after", b"back\xFF")?;
-    expect_none("FF in a number", b"next 1\xFF")?;
-    expect_none("FF for a number", b"settle \xFF yes")?;
-    expect_none("half a letter", b"look\xC3")?;
-    expect_none("a digit with its high bit set", b"next \xB1")?;
-    expect_none("a letter with its high bit set", b"bac\xEB")?;
-    expect_none("a space with its high bit set", b"next\xA01")
+    expect_none_of_bytes(&[
+        ("byte FF", b"\xFF"),
+        ("FF before", b"\xFFback"),
+        ("FF after", b"back\xFF"),
+        ("FF in a number", b"next 1\xFF"),
+        ("FF for a number", b"settle \xFF yes"),
+        ("half a letter", b"look\xC3"),
+        ("a digit with its high bit set", b"next \xB1"),
+        ("a letter with its high bit set", b"bac\xEB"),
+        ("a space with its high bit set", b"next\xA01"),
+    ])
 }
+
+const LONG_LINES: [(&str, &[u8]); 6] = [
+    ("22 bytes", b"settle 42949672950 yes"),
+    ("22 bytes, the last a space", b"settle 4294967295 yes "),
+    (
+        "22 bytes, the last one more letter",
+        b"settle 4294967295 yess",
+    ),
+    ("1000 letters", &[b'x'; 1000]),
+    ("1000 spaces", &[b' '; 1000]),
+    ("1000 zeros", &[b'0'; 1000]),
+];
 
 #[test]
 fn long_lines() -> Result<(), Fail> {
-    expect_none("22 bytes", b"settle 42949672950 yes")?;
-    expect_none("22 bytes, the last a space", b"settle 4294967295 yes ")?;
-    expect_none(
-        "22 bytes, the last one more letter",
-        b"settle 4294967295 yess",
-    )?;
-    expect_none("1000 letters", &[b'x'; 1000])?;
-    expect_none("1000 spaces", &[b' '; 1000])?;
-    expect_none("1000 zeros", &[b'0'; 1000])?;
+    expect_none_of_bytes(&LONG_LINES)?;
     let mut line = [b'0'; 1000];
     let (front, _) = line.split_at_mut(5);
     front.copy_from_slice(b"next ");

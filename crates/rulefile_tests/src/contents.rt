@@ -1,51 +1,37 @@
 // Accepted files give back what they hold.
-use crate::build::{SAMPLE, bytes_of};
+use crate::build::bytes_of;
 use crate::expect::expect_same;
-use crate::view::{show_clauses, show_folders, show_tables};
-use assignment::Value;
-use rulefile::{RuleFile, Space, read};
-use std::alloc::Global;
+use crate::view::write_file;
+use rulefile::{Space, read};
+use std::alloc::{AllocError, Global};
 use std::test::Fail;
 
-// The start and the asked rule.
-fn expect_start(file: &RuleFile, options: u32, yes: u64, no: u64, asked: u32) -> Result<(), Fail> {
-    expect_same(file.options(), options, "options")?;
-    expect_same(file.start().yes_mask(), yes, "start yes")?;
-    expect_same(file.start().no_mask(), no, "start no")?;
-    expect_same(file.asked(), asked, "asked rule")
+// What an accepted file holds, as text, and of another one the fault.
+fn held(heap: Global, bytes: &[u8]) -> Result<String, AllocError> {
+    let space = Space::reserve(heap)?;
+    let mut text = String::new(heap);
+    match read(space, bytes) {
+        Ok(file) => write_file(&mut text, &file)?,
+        Err(fault) => write!(text, "{fault}")?,
+    }
+    Ok(text)
 }
 
-// The layers, each shown as text.
-fn expect_layers(
-    heap: Global,
-    file: &RuleFile,
-    tables: &str,
-    clauses: &str,
-    folders: &str,
-) -> Result<(), Fail> {
-    expect_same(show_tables(heap, file.tables())?.as_str(), tables, "tables")?;
-    expect_same(
-        show_clauses(heap, file.clauses())?.as_str(),
-        clauses,
-        "clauses",
-    )?;
-    expect_same(show_folders(heap, file)?.as_str(), folders, "folders")?;
-    if file.folder(file.folder_count()).is_some() {
-        return Err(Fail::new("a folder past the last"));
-    }
-    Ok(())
+// The file that the words stand for is accepted, and this is what it holds.
+fn expect_held(heap: Global, words: &str, wanted: &str) -> Result<(), Fail> {
+    let bytes = bytes_of(heap, words)?;
+    let text = held(heap, bytes.as_slice())?;
+    expect_same(text.as_str(), wanted, "what the file holds")
 }
 
 #[test]
 fn sample(rt: HostRuntime) -> Result<(), Fail> {
-    let heap = rt.alloc();
-    let space = Space::reserve(heap)?;
-    let Ok(file) = read(space, SAMPLE) else {
-        return Err(Fail::new("the sample is refused"));
-    };
-    expect_start(&file, 4, 0, 0, 0)?;
-    let clauses = "2 yes, 3 yes, ; 1 yes, 2 no, ; . ";
-    expect_layers(heap, &file, "0 1 : 0 2 3. ", clauses, "product 0 1; . ")
+    expect_held(
+        rt.alloc(),
+        "SAMPLE",
+        "options 4, yes 0, no 0, asked 0; table [0, 1] 0 2 3; clauses [(2, false)(3, false)] [(1, false)(2, true)]; \
+        folder 0 Some([Product { first: 0, second: 1 }]); folder 1 None; ",
+    )
 }
 
 // Three tables and two clauses records, a folder with an entry of each op, and a folder over that one.
@@ -58,61 +44,48 @@ const LAYERS: &str = "start:17 40 01 00*6 80 02 01 00*6
 
 #[test]
 fn layers(rt: HostRuntime) -> Result<(), Fail> {
-    let heap = rt.alloc();
-    let bytes = bytes_of(heap, LAYERS)?;
-    let space = Space::reserve(heap)?;
-    let Ok(file) = read(space, bytes.as_slice()) else {
-        return Err(Fail::new("the file is refused"));
-    };
-    expect_start(&file, 64, 0x8000_0000_0000_0001, 0x0102, 1)?;
-    let tables = "0 :. 5 63 : 3 0 3. 7 : 1. ";
-    let clauses = ". 63 no, ; 0 yes, 1 no, ; . ";
-    let folders =
-        "carry 4; product 0 4; either 4 0; selection 1 34 2 30; projection 2 32769; complement 3; none; . carry 6; either 6 6; . ";
-    expect_layers(heap, &file, tables, clauses, folders)
+    expect_held(
+        rt.alloc(),
+        LAYERS,
+        "options 64, yes 8000000000000001, no 102, asked 1, 0 Yes, 1 No, 8 No, 63 Yes; \
+        table [0]; table [5, 63] 3 0 3; table [7] 1; clauses; clauses [(63, true)] [(0, false)(1, true)]; \
+        folder 0 Some([Carry { rule: 4 }, Product { first: 0, second: 4 }, Either { first: 4, second: 0 }, \
+        Selection { rule: 1, left: 34, right: 2, width: 30 }, Projection { rule: 2, hidden: 32769 }, \
+        Complement { rule: 3 }, None]); folder 1 Some([Carry { rule: 6 }, Either { first: 6, second: 6 }]); \
+        folder 2 None; ",
+    )
 }
 
 #[test]
 fn known_values(rt: HostRuntime) -> Result<(), Fail> {
-    let heap = rt.alloc();
-    let bytes = bytes_of(heap, "start:17 40 00*7 80 02 00*7 TABLE ASK")?;
-    let space = Space::reserve(heap)?;
-    let Ok(file) = read(space, bytes.as_slice()) else {
-        return Err(Fail::new("the file is refused"));
-    };
-    let known = file.start();
-    assert_eq!(rt; known.value(0), Value::Unknown, "option 0");
-    assert_eq!(rt; known.value(1), Value::No, "option 1");
-    assert_eq!(rt; known.value(62), Value::Unknown, "option 62");
-    assert_eq!(rt; known.value(63), Value::Yes, "option 63");
-    Ok(())
+    expect_held(
+        rt.alloc(),
+        "start:17 40 00*7 80 02 00*7 TABLE ASK",
+        "options 64, yes 8000000000000000, no 2, asked 0, 1 No, 63 Yes; table [0]; folder 0 None; ",
+    )
 }
 
 // The largest table: 16 columns, 255 rows of 0x8001 and one of 0xFFFF. And 256 clauses.
 const LARGE: &str =
     "MANY table:529 10 303132333435363738393A3B3C3D3E3F 0180*255 FFFF clauses:512 0105*256 ASK";
 
+fn repeated(heap: Global, part: &str, count: u32) -> Result<String, AllocError> {
+    let mut text = String::new(heap);
+    for _ in 0..count {
+        text.push_str(part)?;
+    }
+    Ok(text)
+}
+
 #[test]
 fn large_sheets(rt: HostRuntime) -> Result<(), Fail> {
     let heap = rt.alloc();
-    let bytes = bytes_of(heap, LARGE)?;
-    let space = Space::reserve(heap)?;
-    let Ok(file) = read(space, bytes.as_slice()) else {
-        return Err(Fail::new("the file is refused"));
-    };
-    assert!(rt; file.tables().len() == 1);
-    assert!(rt; file.clauses().len() == 1);
-    assert_eq!(rt; file.clauses()[0].clauses().count(), 256);
-    let table = file.tables()[0];
-    assert_eq!(rt;
-        table.columns(),
-        b"0123456789:;<=>?".as_slice(),
-        "columns 48 to 63"
-    );
-    let total = table
-        .rows()
-        .fold(0u64, |total, row| total.wrapping_add(u64::from(row)));
-    assert_eq!(rt; table.rows().count(), 256);
-    assert_eq!(rt; total, 255 * 0x8001 + 0xFFFF);
-    Ok(())
+    let rows = repeated(heap, " 32769", 255)?;
+    let clauses = repeated(heap, " [(5, false)]", 256)?;
+    let wanted = format!(in heap;
+        "options 64, yes 0, no 0, asked 0; \
+        table [48, 49, 50, 51, 52, 53, 54, 55, 56, 57, 58, 59, 60, 61, 62, 63]{rows} 65535; \
+        clauses{clauses}; folder 0 None; "
+    )?;
+    expect_held(heap, LARGE, wanted.as_str())
 }

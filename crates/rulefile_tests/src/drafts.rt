@@ -1,207 +1,273 @@
 // Drafts that are filled without a file.
+use crate::build::bytes_of;
 use crate::expect::expect_same;
 use crate::view::show_draft;
 use entries::{Draft, EntryFields, EntrySpace};
-use refusals::Refusal;
 use std::alloc::{AllocError, Global};
 use std::test::Fail;
 
-fn draft(heap: Global, options: u32, below: u32) -> Result<Draft, AllocError> {
-    Ok(Draft::new(EntrySpace::reserve(heap)?, options, below))
+// A draft that is told two numbers, entries that it is given one after the other, and what it holds then. Each line is an
+// trial is an entry as a file has it, a `|`, and what the draft answers.
+struct Filling {
+    options: u32,
+    below: u32,
+    trials: &'static str,
+    held: &'static str,
 }
 
-// An entry, and what a draft answers to it: nothing, or the number with which it is refused.
-#[derive(Clone, Copy)]
-struct Trial {
-    fields: EntryFields,
-    answer: Result<(), u8>,
-}
-
-fn case(op: u8, first: u8, second: u8, third: u8, word: u64, answer: Result<(), u8>) -> Trial {
-    let fields = EntryFields {
+// The fields of an entry, which has twelve bytes in a file.
+fn fields_of(heap: Global, words: &str) -> Result<EntryFields, Fail> {
+    let bytes = bytes_of(heap, words)?;
+    let (head, word) = bytes
+        .as_slice()
+        .split_first_chunk::<4>()
+        .ok_or("no fields")?;
+    let [op, first, second, third] = *head;
+    let word = word.as_array::<8>().ok_or("no word")?;
+    Ok(EntryFields {
         op,
         first,
         second,
         third,
-        word,
-    };
-    Trial { fields, answer }
+        word: u64::from_le_bytes(*word),
+    })
 }
 
-// Adds entries in their order. A refused one leaves the draft as it was.
-fn add_each(heap: Global, draft: &mut Draft, cases: &[Trial]) -> Result<(), Fail> {
-    for Trial { fields, answer } in cases {
-        let about = format!(in heap; "{fields:?}")?;
-        let before = show_draft(heap, draft)?;
-        let found = draft.add(*fields).map_err(Refusal::number);
-        expect_same(found, *answer, about.as_str())?;
-        if found.is_err() {
-            let after = show_draft(heap, draft)?;
-            expect_same(after.as_str(), before.as_str(), about.as_str())?;
-        }
+// What a draft answers to an entry: `rule` and the number of entries before it, or `refused` and the number of the
+// refusal. A refused entry is to leave the draft as it was.
+fn answer(heap: Global, draft: &mut Draft, fields: EntryFields) -> Result<String, AllocError> {
+    let rule = draft.entries().len();
+    let before = show_draft(heap, draft)?;
+    let Err(refusal) = draft.add(fields) else {
+        return format!(in heap; "rule {rule}");
+    };
+    let number = refusal.number();
+    let after = show_draft(heap, draft)?;
+    let change = if after == before { "" } else { ", but changed" };
+    format!(in heap; "refused {number}{change}")
+}
+
+fn expect_answer(heap: Global, draft: &mut Draft, trial: &str) -> Result<(), Fail> {
+    let (entry, words) = trial.split_once('|').ok_or("no answer")?;
+    let fields = fields_of(heap, entry)?;
+    let answer = answer(heap, draft, fields)?;
+    expect_same(answer.as_str(), words.trim(), trial.trim())
+}
+
+fn expect_answers(heap: Global, draft: &mut Draft, trials: &str) -> Result<(), Fail> {
+    for trial in trials.trim().lines() {
+        expect_answer(heap, draft, trial)?;
     }
     Ok(())
 }
 
-// The draft that comes of such entries, as text.
-fn filled(heap: Global, options: u32, below: u32, cases: &[Trial]) -> Result<String, Fail> {
-    let mut draft = draft(heap, options, below)?;
-    add_each(heap, &mut draft, cases)?;
-    Ok(show_draft(heap, &draft)?)
+fn expect_filled(heap: Global, filling: &Filling) -> Result<(), Fail> {
+    let space = EntrySpace::reserve(heap)?;
+    let mut draft = Draft::new(space, filling.options, filling.below);
+    expect_answers(heap, &mut draft, filling.trials)?;
+    let text = show_draft(heap, &draft)?;
+    expect_same(text.as_str(), filling.held, "the draft at the end")
+}
+
+fn expect_all_filled(heap: Global, fillings: &[Filling]) -> Result<(), Fail> {
+    for filling in fillings {
+        expect_filled(heap, filling)?;
+    }
+    Ok(())
 }
 
 // Told a bad number of options, a draft refuses good entries and bad ones with 9.
-fn all_refused() -> [Trial; 7] {
-    [
-        case(6, 0, 0, 0, 0, Err(9)),
-        case(0, 1, 0, 0, 0, Err(9)),
-        case(7, 0, 0, 0, 0, Err(9)),
-        case(0, 2, 0, 0, 0, Err(9)),
-        case(3, 0, 70, 0, 1, Err(9)),
-        case(3, 0, 1, 1, 1, Err(9)),
-        case(4, 0, 0, 0, 0x1FFFF, Err(9)),
-    ]
-}
+const ALL_REFUSED: &str = "
+    06 00 00 00 00*8 | refused 9
+    00 01 00 00 00*8 | refused 9
+    07 00 00 00 00*8 | refused 9
+    00 02 00 00 00*8 | refused 9
+    03 00 46 00 01 00*7 | refused 9
+    03 00 01 01 01 00*7 | refused 9
+    04 00 00 00 FF FF 01 00*5 | refused 9
+    ";
+
+const OPTIONS_TOLD: [Filling; 6] = [
+    Filling {
+        options: 0,
+        below: 2,
+        trials: ALL_REFUSED,
+        held: "0 over 2: []",
+    },
+    Filling {
+        options: 65,
+        below: 2,
+        trials: ALL_REFUSED,
+        held: "65 over 2: []",
+    },
+    Filling {
+        options: 256,
+        below: 2,
+        trials: ALL_REFUSED,
+        held: "256 over 2: []",
+    },
+    Filling {
+        options: u32::MAX,
+        below: 2,
+        trials: ALL_REFUSED,
+        held: "4294967295 over 2: []",
+    },
+    Filling {
+        options: 1,
+        below: 2,
+        trials: "
+            04 01 00 00 01 00*7 | rule 0
+            04 01 00 00 02 00*7 | refused 7
+            ",
+        held: "1 over 2: [Projection { rule: 1, hidden: 1 }]",
+    },
+    Filling {
+        options: 64,
+        below: 2,
+        trials: "
+            04 01 00 00 00*6 FF FF | rule 0
+            03 00 00 20 20 00*7 | rule 1
+            03 00 00 21 20 00*7 | refused 7
+            ",
+        held: "64 over 2: [Projection { rule: 1, hidden: 18446462598732840960 }, \
+            Selection { rule: 0, left: 0, right: 32, width: 32 }]",
+    },
+];
 
 #[test]
 fn options_told(rt: HostRuntime) -> Result<(), Fail> {
-    let heap = rt.alloc();
-    assert_eq!(rt; filled(heap, 0, 2, &all_refused())?.as_str(), "0 over 2: ");
-    assert_eq!(rt;
-        filled(heap, 65, 2, &all_refused())?.as_str(),
-        "65 over 2: "
-    );
-    assert_eq!(rt;
-        filled(heap, 256, 2, &all_refused())?.as_str(),
-        "256 over 2: "
-    );
-    assert_eq!(rt;
-        filled(heap, u32::MAX, 2, &all_refused())?.as_str(),
-        "4294967295 over 2: "
-    );
-    let one = filled(
-        heap,
-        1,
-        2,
-        &[case(4, 1, 0, 0, 1, Ok(())), case(4, 1, 0, 0, 2, Err(7))],
-    )?;
-    assert_eq!(rt; one.as_str(), "1 over 2: projection 1 1; ");
-    let most = filled(
-        heap,
-        64,
-        2,
-        &[
-            case(4, 1, 0, 0, 0xFFFF_0000_0000_0000, Ok(())),
-            case(3, 0, 0, 32, 32, Ok(())),
-            case(3, 0, 0, 33, 32, Err(7)),
-        ],
-    )?;
-    assert_eq!(rt;
-        most.as_str(),
-        "64 over 2: projection 1 18446462598732840960; selection 0 0 32 32; "
-    );
-    Ok(())
+    expect_all_filled(rt.alloc(), &OPTIONS_TOLD)
 }
+
+const RULES_TOLD: [Filling; 4] = [
+    Filling {
+        options: 4,
+        below: 0,
+        trials: "
+            00 00 00 00 00*8 | refused 10
+            06 00 00 00 00*8 | rule 0
+            05 00 00 00 00*8 | refused 10
+            ",
+        held: "4 over 0: [None]",
+    },
+    Filling {
+        options: 4,
+        below: 255,
+        trials: "
+            00 FE 00 00 00*8 | rule 0
+            00 FF 00 00 00*8 | refused 10
+            ",
+        held: "4 over 255: [Carry { rule: 254 }]",
+    },
+    Filling {
+        options: 4,
+        below: 256,
+        trials: "
+            05 FF 00 00 00*8 | rule 0
+            02 00 FF 00 00*8 | rule 1
+            ",
+        held: "4 over 256: [Complement { rule: 255 }, Either { first: 0, second: 255 }]",
+    },
+    Filling {
+        options: 4,
+        below: u32::MAX,
+        trials: "01 FF 00 00 00*8 | rule 0",
+        held: "4 over 4294967295: [Product { first: 255, second: 0 }]",
+    },
+];
 
 #[test]
 fn rules_told(rt: HostRuntime) -> Result<(), Fail> {
-    let heap = rt.alloc();
-    let none = filled(
-        heap,
-        4,
-        0,
-        &[
-            case(0, 0, 0, 0, 0, Err(10)),
-            case(6, 0, 0, 0, 0, Ok(())),
-            case(5, 0, 0, 0, 0, Err(10)),
-        ],
-    )?;
-    assert_eq!(rt; none.as_str(), "4 over 0: none; ");
-    let most = filled(
-        heap,
-        4,
-        255,
-        &[
-            case(0, 254, 0, 0, 0, Ok(())),
-            case(0, 255, 0, 0, 0, Err(10)),
-        ],
-    )?;
-    assert_eq!(rt; most.as_str(), "4 over 255: carry 254; ");
-    let more = filled(
-        heap,
-        4,
-        256,
-        &[case(5, 255, 0, 0, 0, Ok(())), case(2, 0, 255, 0, 0, Ok(()))],
-    )?;
-    assert_eq!(rt; more.as_str(), "4 over 256: complement 255; either 0 255; ");
-    let any = filled(heap, 4, u32::MAX, &[case(1, 255, 0, 0, 0, Ok(()))])?;
-    assert_eq!(rt; any.as_str(), "4 over 4294967295: product 255 0; ");
-    Ok(())
+    expect_all_filled(rt.alloc(), &RULES_TOLD)
 }
 
-// Over 20 options and 2 rules, between two accepted entries: bad ops, unused fields, rules, widths, ranges, overlaps
-// and hidden options, alone and with a fault that a later check would find.
-fn mixed() -> [Trial; 16] {
-    [
-        case(1, 0, 1, 0, 0, Ok(())),
-        case(7, 0, 0, 0, 0, Err(9)),
-        case(7, 9, 9, 9, 9, Err(9)),
-        case(6, 1, 0, 0, 0, Err(9)),
-        case(5, 2, 1, 0, 0, Err(9)),
-        case(0, 2, 0, 0, 0, Err(10)),
-        case(3, 2, 0, 1, 0, Err(10)),
-        case(3, 0, 0, 1, 0, Err(9)),
-        case(3, 0, 0, 1, 33, Err(9)),
-        case(3, 0, 0, 1, 0x1_0000_0001, Err(9)),
-        case(3, 0, 0, 18, 3, Err(7)),
-        case(3, 0, 18, 18, 3, Err(7)),
-        case(3, 0, 16, 17, 3, Err(8)),
-        case(4, 0, 0, 0, 0x1F_FFF0, Err(7)),
-        case(4, 0, 0, 0, 0xF_FFF8, Err(12)),
-        case(4, 1, 0, 0, 0xF_FFF0, Ok(())),
-    ]
-}
+// Between two accepted entries: bad ops, unused fields, rules, widths, ranges, overlaps and hidden options, alone and
+// with a fault that a later check would find.
+const REFUSED_ENTRIES: Filling = Filling {
+    options: 20,
+    below: 2,
+    trials: "
+        01 00 01 00 00*8 | rule 0
+        07 00 00 00 00*8 | refused 9
+        07 09 09 09 09 00*7 | refused 9
+        06 01 00 00 00*8 | refused 9
+        05 02 01 00 00*8 | refused 9
+        00 02 00 00 00*8 | refused 10
+        03 02 00 01 00*8 | refused 10
+        03 00 00 01 00*8 | refused 9
+        03 00 00 01 21 00*7 | refused 9
+        03 00 00 01 01 00*3 01 00*3 | refused 9
+        03 00 00 12 03 00*7 | refused 7
+        03 00 12 12 03 00*7 | refused 7
+        03 00 10 11 03 00*7 | refused 8
+        04 00 00 00 F0 FF 1F 00*5 | refused 7
+        04 00 00 00 F8 FF 0F 00*5 | refused 12
+        04 01 00 00 F0 FF 0F 00*5 | rule 1
+        ",
+    held: "20 over 2: [Product { first: 0, second: 1 }, Projection { rule: 1, hidden: 1048560 }]",
+};
 
 #[test]
 fn refused_entries(rt: HostRuntime) -> Result<(), Fail> {
-    let text = filled(rt.alloc(), 20, 2, &mixed())?;
-    assert_eq!(rt;
-        text.as_str(),
-        "20 over 2: product 0 1; projection 1 1048560; "
-    );
-    Ok(())
+    expect_filled(rt.alloc(), &REFUSED_ENTRIES)
 }
 
-// To a full draft: a good entry, and one for each check that an entry can fail.
-fn one_more() -> [Trial; 8] {
-    [
-        case(0, 0, 0, 0, 0, Err(5)),
-        case(7, 0, 0, 0, 0, Err(5)),
-        case(0, 0, 1, 0, 0, Err(5)),
-        case(0, 32, 0, 0, 0, Err(5)),
-        case(3, 0, 0, 1, 0, Err(5)),
-        case(3, 0, 64, 0, 1, Err(5)),
-        case(3, 0, 1, 1, 1, Err(5)),
-        case(4, 0, 0, 0, 0x1FFFF, Err(5)),
-    ]
-}
+// 32 entries, then to a full draft a good entry, and one for each check that an entry can fail.
+const FULL_DRAFT: Filling = Filling {
+    options: 64,
+    below: 32,
+    trials: "
+        00 00 00 00 00*8 | rule 0
+        00 01 00 00 00*8 | rule 1
+        00 02 00 00 00*8 | rule 2
+        00 03 00 00 00*8 | rule 3
+        00 04 00 00 00*8 | rule 4
+        00 05 00 00 00*8 | rule 5
+        00 06 00 00 00*8 | rule 6
+        00 07 00 00 00*8 | rule 7
+        00 08 00 00 00*8 | rule 8
+        00 09 00 00 00*8 | rule 9
+        00 0A 00 00 00*8 | rule 10
+        00 0B 00 00 00*8 | rule 11
+        00 0C 00 00 00*8 | rule 12
+        00 0D 00 00 00*8 | rule 13
+        00 0E 00 00 00*8 | rule 14
+        00 0F 00 00 00*8 | rule 15
+        00 10 00 00 00*8 | rule 16
+        00 11 00 00 00*8 | rule 17
+        00 12 00 00 00*8 | rule 18
+        00 13 00 00 00*8 | rule 19
+        00 14 00 00 00*8 | rule 20
+        00 15 00 00 00*8 | rule 21
+        00 16 00 00 00*8 | rule 22
+        00 17 00 00 00*8 | rule 23
+        00 18 00 00 00*8 | rule 24
+        00 19 00 00 00*8 | rule 25
+        00 1A 00 00 00*8 | rule 26
+        00 1B 00 00 00*8 | rule 27
+        00 1C 00 00 00*8 | rule 28
+        00 1D 00 00 00*8 | rule 29
+        00 1E 00 00 00*8 | rule 30
+        00 1F 00 00 00*8 | rule 31
+        00 00 00 00 00*8 | refused 5
+        07 00 00 00 00*8 | refused 5
+        00 00 01 00 00*8 | refused 5
+        00 20 00 00 00*8 | refused 5
+        03 00 00 01 00*8 | refused 5
+        03 00 40 00 01 00*7 | refused 5
+        03 00 01 01 01 00*7 | refused 5
+        04 00 00 00 FF FF 01 00*5 | refused 5
+        ",
+    held: "64 over 32: [Carry { rule: 0 }, Carry { rule: 1 }, Carry { rule: 2 }, Carry { rule: 3 }, Carry { rule: 4 }, \
+        Carry { rule: 5 }, Carry { rule: 6 }, Carry { rule: 7 }, Carry { rule: 8 }, Carry { rule: 9 }, \
+        Carry { rule: 10 }, Carry { rule: 11 }, Carry { rule: 12 }, Carry { rule: 13 }, Carry { rule: 14 }, \
+        Carry { rule: 15 }, Carry { rule: 16 }, Carry { rule: 17 }, Carry { rule: 18 }, Carry { rule: 19 }, \
+        Carry { rule: 20 }, Carry { rule: 21 }, Carry { rule: 22 }, Carry { rule: 23 }, Carry { rule: 24 }, \
+        Carry { rule: 25 }, Carry { rule: 26 }, Carry { rule: 27 }, Carry { rule: 28 }, Carry { rule: 29 }, \
+        Carry { rule: 30 }, Carry { rule: 31 }]",
+};
 
 #[test]
 fn full_draft(rt: HostRuntime) -> Result<(), Fail> {
-    let heap = rt.alloc();
-    let mut draft = draft(heap, 64, 32)?;
-    for rule in 0..32u8 {
-        assert_eq!(rt; draft.entries().len(), usize::from(rule));
-        add_each(heap, &mut draft, &[case(0, rule, 0, 0, 0, Ok(()))])?;
-    }
-    assert_eq!(rt; draft.entries().len(), 32);
-    add_each(heap, &mut draft, &one_more())?;
-    assert_eq!(rt; draft.entries().len(), 32);
-    let text = show_draft(heap, &draft)?;
-    assert!(rt;
-        text.as_str()
-            .starts_with("64 over 32: carry 0; carry 1; carry 2; ")
-    );
-    assert!(rt; text.as_str().ends_with("; carry 30; carry 31; "));
-    Ok(())
+    expect_filled(rt.alloc(), &FULL_DRAFT)
 }

@@ -23,15 +23,27 @@ pub(crate) fn expect(heap: Global, case: &str, bytes: &[u8], words: &str) -> Res
     expect_same(answer.as_str(), words, case)
 }
 
-// Each line is a case of three parts with `|` between them: what it is about, a file, and what is told of it.
-pub(crate) fn expect_all(heap: Global, cases: &str) -> Result<(), Fail> {
-    for case in cases.trim().lines() {
-        let (about, rest) = case.split_once('|').ok_or("no file")?;
-        let (file, words) = rest.split_once('|').ok_or("no words")?;
-        let bytes = bytes_of(heap, file)?;
-        expect(heap, about.trim(), bytes.as_slice(), words.trim())?;
+// Each line of a text is a case of three parts with `|` between them: what it is about, a file, and what is told of it.
+pub(crate) fn expect_all(heap: Global, texts: &[&str]) -> Result<(), Fail> {
+    for text in texts {
+        expect_cases(heap, text)?;
     }
     Ok(())
+}
+
+fn expect_cases(heap: Global, text: &str) -> Result<(), Fail> {
+    for case in text.trim().lines() {
+        let (about, file, words) = parts_of(case).ok_or("not three parts")?;
+        let bytes = bytes_of(heap, file)?;
+        expect(heap, about, bytes.as_slice(), words)?;
+    }
+    Ok(())
+}
+
+fn parts_of(case: &str) -> Option<(&str, &str, &str)> {
+    let (about, rest) = case.split_once('|')?;
+    let (file, words) = rest.split_once('|')?;
+    Some((about.trim(), file, words.trim()))
 }
 
 // What was found is what the case wants.

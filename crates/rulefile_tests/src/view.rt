@@ -1,86 +1,87 @@
 // What an accepted file or a draft holds, as text.
-use entries::{Draft, Entry};
+use assignment::{Assignment, Value};
+use entries::Draft;
 use rulefile::RuleFile;
-use sheets::{ClauseSheet, TableSheet};
+use sheets::{Clause, ClauseSheet, TableSheet};
 use std::alloc::{AllocError, Global};
 
-// For each table its columns, a colon, and its rows as numbers.
-pub(crate) fn show_tables(heap: Global, tables: &[TableSheet]) -> Result<String, AllocError> {
-    let mut text = String::new(heap);
-    for table in tables {
-        for column in table.columns() {
-            text.push_str(format!(in heap; "{column} ")?.as_str())?;
-        }
-        text.push_str(":")?;
-        for row in table.rows() {
-            text.push_str(format!(in heap; " {row}")?.as_str())?;
-        }
-        text.push_str(". ")?;
+// The start and the asked rule, then the tables, the clauses records and the folders, each with a semicolon behind it.
+pub(crate) fn write_file(text: &mut String, file: &RuleFile) -> Result<(), AllocError> {
+    write_start(text, file)?;
+    write_known(text, file.start())?;
+    for table in file.tables() {
+        write_table(text, table)?;
     }
-    Ok(text)
+    for sheet in file.clauses() {
+        write_clauses(text, sheet)?;
+    }
+    write_folders(text, file)
 }
 
-// For each clauses record its clauses, each with its wanted values.
-pub(crate) fn show_clauses(heap: Global, sheets: &[ClauseSheet]) -> Result<String, AllocError> {
-    let mut text = String::new(heap);
-    for sheet in sheets {
-        for clause in sheet.clauses() {
-            for wanted in clause {
-                let option = wanted.option;
-                let value = if wanted.negated { "no" } else { "yes" };
-                text.push_str(format!(in heap; "{option} {value}, ")?.as_str())?;
-            }
-            text.push_str("; ")?;
-        }
-        text.push_str(". ")?;
-    }
-    Ok(text)
+// The number of options, the two masks of the start, and the asked rule.
+fn write_start(text: &mut String, file: &RuleFile) -> Result<(), AllocError> {
+    let options = file.options();
+    let yes = file.start().yes_mask();
+    let no = file.start().no_mask();
+    let asked = file.asked();
+    write!(
+        text,
+        "options {options}, yes {yes:x}, no {no:x}, asked {asked}"
+    )
 }
 
-// For each folder its entries.
-pub(crate) fn show_folders(heap: Global, file: &RuleFile) -> Result<String, AllocError> {
-    let mut text = String::new(heap);
-    for index in 0..file.folder_count() {
-        match file.folder(index) {
-            Some(entries) => text.push_str(show_entries(heap, entries)?.as_str())?,
-            None => text.push_str("missing")?,
+// Each option that is known, with its value.
+fn write_known(text: &mut String, start: Assignment) -> Result<(), AllocError> {
+    for option in 0..64 {
+        let value = start.value(option);
+        if value != Value::Unknown {
+            write!(text, ", {option} {value:?}")?;
         }
-        text.push_str(". ")?;
     }
-    Ok(text)
+    text.push_str("; ")
+}
+
+// The columns, and the rows as numbers.
+fn write_table(text: &mut String, table: &TableSheet) -> Result<(), AllocError> {
+    let columns = table.columns();
+    write!(text, "table {columns:?}")?;
+    for row in table.rows() {
+        write!(text, " {row}")?;
+    }
+    text.push_str("; ")
+}
+
+// The clauses, each with the options that are wanted and whether they are wanted no.
+fn write_clauses(text: &mut String, sheet: &ClauseSheet) -> Result<(), AllocError> {
+    text.push_str("clauses")?;
+    for clause in sheet.clauses() {
+        write_clause(text, clause)?;
+    }
+    text.push_str("; ")
+}
+
+fn write_clause(text: &mut String, clause: Clause) -> Result<(), AllocError> {
+    text.push_str(" [")?;
+    for wanted in clause {
+        let value = (wanted.option, wanted.negated);
+        write!(text, "{value:?}")?;
+    }
+    text.push_str("]")
+}
+
+// What there is for each folder's number, and for the number past the last.
+fn write_folders(text: &mut String, file: &RuleFile) -> Result<(), AllocError> {
+    for index in 0..=file.folder_count() {
+        let folder = file.folder(index);
+        write!(text, "folder {index} {folder:?}; ")?;
+    }
+    Ok(())
 }
 
 // The numbers that a draft was told, and its entries.
 pub(crate) fn show_draft(heap: Global, draft: &Draft) -> Result<String, AllocError> {
     let options = draft.options();
     let below = draft.below();
-    let mut text = format!(in heap; "{options} over {below}: ")?;
-    text.push_str(show_entries(heap, draft.entries())?.as_str())?;
-    Ok(text)
-}
-
-fn show_entries(heap: Global, entries: &[Entry]) -> Result<String, AllocError> {
-    let mut text = String::new(heap);
-    for entry in entries {
-        text.push_str(show_entry(heap, *entry)?.as_str())?;
-        text.push_str("; ")?;
-    }
-    Ok(text)
-}
-
-fn show_entry(heap: Global, entry: Entry) -> Result<String, AllocError> {
-    match entry {
-        Entry::Carry { rule } => format!(in heap; "carry {rule}"),
-        Entry::Product { first, second } => format!(in heap; "product {first} {second}"),
-        Entry::Either { first, second } => format!(in heap; "either {first} {second}"),
-        Entry::Selection {
-            rule,
-            left,
-            right,
-            width,
-        } => format!(in heap; "selection {rule} {left} {right} {width}"),
-        Entry::Projection { rule, hidden } => format!(in heap; "projection {rule} {hidden}"),
-        Entry::Complement { rule } => format!(in heap; "complement {rule}"),
-        Entry::None => format!(in heap; "none"),
-    }
+    let entries = draft.entries();
+    format!(in heap; "{options} over {below}: {entries:?}")
 }
