@@ -9,13 +9,6 @@ fn expect_fault(heap: Global, fault: FileFault, words: &str) -> Result<(), Fail>
     expect_same(line.as_bytes(), words.as_bytes(), words)
 }
 
-fn expect_faults(heap: Global, faults: &[(FileFault, &str)]) -> Result<(), Fail> {
-    for (fault, words) in faults {
-        expect_fault(heap, *fault, words)?;
-    }
-    Ok(())
-}
-
 const UNFINISHED: RecordFault = RecordFault {
     refusal: Refusal::Unfinished,
     place: 0,
@@ -25,24 +18,6 @@ const UNFIT: RecordFault = RecordFault {
     refusal: Refusal::Unfit,
     place: 21,
 };
-
-#[test]
-fn faults_of_records(rt: HostRuntime) -> Result<(), Fail> {
-    expect_faults(
-        rt.alloc(),
-        &[
-            (FileFault::Record(UNFINISHED), "refused 11 record 0 0"),
-            (
-                FileFault::Sheet(SheetFault::Record(UNFIT)),
-                "refused 6 record 21 0",
-            ),
-            (
-                FileFault::Folder(FolderFault::Record(UNFIT)),
-                "refused 6 record 21 0",
-            ),
-        ],
-    )
-}
 
 const START: FileFault = FileFault::Start {
     refusal: Refusal::OutOfRange,
@@ -66,18 +41,31 @@ const QUESTION: FileFault = FileFault::Question {
     place: 60,
 };
 
+// Faults of records, and then of what they contain.
+const FAULTS: [(FileFault, &str); 7] = [
+    (FileFault::Record(UNFINISHED), "refused 11 record 0 0"),
+    (
+        FileFault::Sheet(SheetFault::Record(UNFIT)),
+        "refused 6 record 21 0",
+    ),
+    (
+        FileFault::Folder(FolderFault::Record(UNFIT)),
+        "refused 6 record 21 0",
+    ),
+    (START, "refused 9 start 0 0"),
+    (FileFault::Sheet(COLUMN), "refused 7 sheet 21 1"),
+    (
+        FileFault::Folder(FARTHEST),
+        "refused 12 folder 18446744073709551615 18446744073709551615",
+    ),
+    (QUESTION, "refused 10 question 60 0"),
+];
+
 #[test]
-fn faults_of_contents(rt: HostRuntime) -> Result<(), Fail> {
-    expect_faults(
-        rt.alloc(),
-        &[
-            (START, "refused 9 start 0 0"),
-            (FileFault::Sheet(COLUMN), "refused 7 sheet 21 1"),
-            (
-                FileFault::Folder(FARTHEST),
-                "refused 12 folder 18446744073709551615 18446744073709551615",
-            ),
-            (QUESTION, "refused 10 question 60 0"),
-        ],
-    )
+fn lines_of_faults(rt: HostRuntime) -> Result<(), Fail> {
+    let heap = rt.alloc();
+    for (fault, words) in &FAULTS {
+        expect_fault(heap, *fault, words)?;
+    }
+    Ok(())
 }

@@ -184,9 +184,8 @@ fn letters() -> Result<(), Fail> {
 fn a_line_over_another() -> Result<(), Fail> {
     let mut buffer = [BEFORE; LINE];
     let first = write_options(4294967295, &mut buffer);
-    expect_same(first, 19, "the longer line")?;
     let second = write_reply(Reply::Done, 64, &mut buffer);
-    expect_same(second, 3, "the shorter line")?;
-    let front = buffer.get(..20).ok_or("no front")?;
-    expect_same(front, b"ok\nions 4294967295\n#".as_slice(), "both lines")
+    expect_same((first, second), (19, 3), "the sizes of both lines")?;
+    let both = b"ok\nions 4294967295\n#".as_slice();
+    expect_same(buffer.get(..20), Some(both), "both lines")
 }
