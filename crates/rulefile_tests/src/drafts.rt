@@ -6,8 +6,8 @@ use entries::{Draft, EntryFields, EntrySpace};
 use std::alloc::{AllocError, Global};
 use std::test::Fail;
 
-// A draft that is told two numbers, entries that it is given one after the other, and what it holds then. Each line is an
-// trial is an entry as a file has it, a `|`, and what the draft answers.
+// A draft that is told two numbers, entries that it is given one after the other, and what it holds then. Each line of
+// the trials is an entry as a file has it, a `|`, and what the draft answers.
 struct Filling {
     options: u32,
     below: u32,
