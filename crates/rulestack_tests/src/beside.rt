@@ -1,27 +1,28 @@
 // Two rule sets side by side. In these, rule k of the tables adds that option k is yes, and rule k of the clause sheets
 // that it is no.
 use crate::build::{beside, sheet_rules};
-use crate::expect::{expect_cases, expect_each, parts};
+use crate::expect::{Asked, expect_cases, expect_each};
 use ruleset::SideBySide;
-use sheet_rules::{ClauseSheets, TableSheets};
+use sheet_rules::TableSheets;
+use sheets::{ClauseSheet, TableSheet};
 use std::alloc::{AllocError, Global};
 use std::test::Fail;
 
-// So many tables and so many clause sheets. Table k has one column, option k, and one row, in which it is yes; past 63 the
-// options begin anew. Clause sheet k has one clause, for which option k is wanted no.
-pub(crate) fn yes_and_no(
-    heap: Global,
-    tables: u8,
-    clauses: u8,
-) -> Result<Vec<Vec<u8>>, AllocError> {
-    let mut bodies = Vec::new(heap);
-    for option in 0..tables {
+// So many tables more. Table k of them has one column, option k, and one row, in which it is yes; past 63 the options begin
+// anew.
+fn add_tables(heap: Global, bodies: &mut Vec<Vec<u8>>, count: u8) -> Result<(), AllocError> {
+    for option in 0..count {
         bodies.push([1, option % 64, 1, 0].to_vec(heap)?)?;
     }
-    for option in 0..clauses {
+    Ok(())
+}
+
+// So many clause sheets more. Clause sheet k of them has one clause, for which option k is wanted no.
+fn add_clauses(heap: Global, bodies: &mut Vec<Vec<u8>>, count: u8) -> Result<(), AllocError> {
+    for option in 0..count {
         bodies.push([1, 128 | option].to_vec(heap)?)?;
     }
-    Ok(bodies)
+    Ok(())
 }
 
 // So many tables beside so many clause sheets.
@@ -77,17 +78,34 @@ const TWO_SETS: &str = "
         absent | 0 64 65 79 80 256 4294967295
 ";
 
-fn expect_beside(heap: Global, head: &str, cases: &str) -> Result<(), Fail> {
-    let (about, tables, clauses) = parts(head)?;
-    let tables = tables.parse::<u8>()?;
-    let bodies = yes_and_no(heap, tables, clauses.parse::<u8>()?)?;
-    let mut rules = beside(heap, bodies.as_slice(), usize::from(tables))?;
+pub(crate) fn expect_beside(
+    heap: Global,
+    tables: &str,
+    clauses: &str,
+    about: &str,
+    cases: &str,
+) -> Result<(), Fail> {
+    let mut bodies = Vec::new(heap);
+    add_tables(heap, &mut bodies, tables.parse::<u8>()?)?;
+    let tables = bodies.len();
+    add_clauses(heap, &mut bodies, clauses.parse::<u8>()?)?;
+    expect_bodies(heap, bodies.as_slice(), tables, about, cases)
+}
+
+fn expect_bodies(
+    heap: Global,
+    bodies: &[Vec<u8>],
+    tables: usize,
+    about: &str,
+    cases: &str,
+) -> Result<(), Fail> {
+    let mut rules = beside::<TableSheet<'_>, ClauseSheet<'_>>(heap, bodies, tables)?;
     expect_cases(&mut rules, about, cases)
 }
 
 #[test]
 fn two_sets(rt: HostRuntime) -> Result<(), Fail> {
-    expect_each(rt.alloc(), TWO_SETS, expect_beside)
+    expect_each(rt.alloc(), Asked::Beside, TWO_SETS)
 }
 
 const THREE_SETS: &str = "
@@ -104,27 +122,20 @@ const THREE_SETS: &str = "
 #[test]
 fn three_sets(rt: HostRuntime) -> Result<(), Fail> {
     let heap = rt.alloc();
-    let bodies = yes_and_no(heap, 40, 40)?;
-    let (tables, clauses) = bodies.split_at_checked(40).ok_or("too few sheets")?;
-    let (two, _) = tables.split_at_checked(2).ok_or("too few tables")?;
-    let first: TableSheets<'_> = sheet_rules(heap, two, 64)?;
-    let second: ClauseSheets<'_> = sheet_rules(heap, clauses, 64)?;
-    let third: TableSheets<'_> = sheet_rules(heap, tables, 64)?;
-    let mut rules = SideBySide::new(first, SideBySide::new(second, third));
-    expect_cases(&mut rules, "three sets", THREE_SETS)
+    let mut bodies = Vec::new(heap);
+    add_tables(heap, &mut bodies, 2)?;
+    add_clauses(heap, &mut bodies, 40)?;
+    add_tables(heap, &mut bodies, 40)?;
+    expect_three_sets(heap, bodies.as_slice())
 }
 
-// Of more than 64 sheets the first 64 are rules.
-const MANY_SHEETS: &str = "
-    count | 64
-    the last | 63 | nothing | yes 63
-    absent | 64 69 70
-";
-
-#[test]
-fn many_sheets(rt: HostRuntime) -> Result<(), Fail> {
-    let heap = rt.alloc();
-    let bodies = yes_and_no(heap, 70, 0)?;
-    let mut rules: TableSheets<'_> = sheet_rules(heap, bodies.as_slice(), 64)?;
-    expect_cases(&mut rules, "many sheets", MANY_SHEETS)
+fn expect_three_sets(heap: Global, bodies: &[Vec<u8>]) -> Result<(), Fail> {
+    let (tables, others) = bodies.split_at_checked(2).ok_or("too few sheets")?;
+    let others = beside::<ClauseSheet<'_>, TableSheet<'_>>(heap, others, 40)?;
+    let tables: TableSheets<'_> = sheet_rules(heap, tables, 64)?;
+    expect_cases(
+        &mut SideBySide::new(tables, others),
+        "three sets",
+        THREE_SETS,
+    )
 }

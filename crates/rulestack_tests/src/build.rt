@@ -1,19 +1,21 @@
 // Assignments, sheets and folders written as words.
 use assignment::Assignment;
 use entries::{Draft, EntryFields, EntrySpace, Op};
+use folders::Folder;
 use refusals::{Body, SheetFault};
-use ruleset::SideBySide;
-use sheet_rules::{ClauseSheets, SheetRule, SheetRules, TableSheets};
+use ruleset::{RuleSet, SideBySide};
+use sheet_rules::{SheetRule, SheetRules};
 use sheets::Sheet;
 use std::alloc::Global;
 use std::test::Fail;
 
-// What is known, as `yes 0 2 no 3-7 both 8`: the options behind each word have its value, and of an option that is
-// named twice the last value counts. All others are unknown. `contradiction` and `nothing` need no option.
+// What is known, as `yes 0 2 no 3-7 both 8`: the options behind each word have its value, and those before any word are
+// yes. Of an option that is named twice the last value counts. All others are unknown. `contradiction` and `nothing` need
+// no option.
 pub(crate) fn known(words: &str) -> Result<Assignment, Fail> {
     let mut yes = 0;
     let mut no = 0;
-    let mut value = (false, false);
+    let mut value = (true, false);
     for word in words.split_whitespace() {
         match word {
             "nothing" => {}
@@ -49,18 +51,12 @@ fn mask_of(word: &str) -> Result<u64, Fail> {
     Ok(mask)
 }
 
-// The mask of options, as `3-7 9`.
-fn mask(options: &str) -> Result<u64, Fail> {
-    let mut mask = 0;
-    for word in options.split_whitespace() {
-        mask |= mask_of(word)?;
-    }
-    Ok(mask)
-}
-
 // What is known, from letters for the options from 0 on: `y`, `n`, `?` for unknown and `*` for both. Every option behind
-// them is no.
+// them is no. `contradiction` is no letters.
 pub(crate) fn in_letters(letters: &str) -> Result<Assignment, Fail> {
+    if letters == "contradiction" {
+        return Ok(Assignment::contradiction());
+    }
     let mut yes = 0;
     let mut no = u64::MAX;
     for letter in letters.as_bytes().iter().rev() {
@@ -82,10 +78,7 @@ pub(crate) fn in_letters(letters: &str) -> Result<Assignment, Fail> {
 // wanted no. The sheet without clauses is written `no clauses`.
 pub(crate) fn bodies(heap: Global, text: &str) -> Result<Vec<Vec<u8>>, Fail> {
     let mut bodies = Vec::new(heap);
-    if text.is_empty() {
-        return Ok(bodies);
-    }
-    for sheet in text.split('/') {
+    for sheet in text.split_terminator('/') {
         let mut body = Vec::new(heap);
         add_sheet(&mut body, sheet.trim())?;
         bodies.push(body)?;
@@ -93,30 +86,23 @@ pub(crate) fn bodies(heap: Global, text: &str) -> Result<Vec<Vec<u8>>, Fail> {
     Ok(bodies)
 }
 
-fn add_sheet(body: &mut Vec<u8>, sheet: &str) -> Result<(), Fail> {
+// A table is a list of columns with rows behind it, and a clause sheet has lists alone.
+pub(crate) fn add_sheet(body: &mut Vec<u8>, sheet: &str) -> Result<(), Fail> {
     if sheet == "no clauses" {
         return Ok(());
     }
-    match sheet.split_once(':') {
-        Some((columns, rows)) => {
-            add_list(body, columns)?;
-            add_rows(body, rows)
-        }
-        None => add_clauses(body, sheet),
+    for list in sheet.split(';') {
+        let (options, rows) = list.split_once(':').unwrap_or((list, ""));
+        add_list(body, options)?;
+        add_rows(body, rows)?;
     }
+    Ok(())
 }
 
 fn add_rows(body: &mut Vec<u8>, rows: &str) -> Result<(), Fail> {
     for row in rows.split_whitespace() {
         let bits = in_letters(row)?.yes_mask();
         body.extend_from_slice(&u16::try_from(bits)?.to_le_bytes())?;
-    }
-    Ok(())
-}
-
-fn add_clauses(body: &mut Vec<u8>, clauses: &str) -> Result<(), Fail> {
-    for clause in clauses.split(';') {
-        add_list(body, clause)?;
     }
     Ok(())
 }
@@ -151,16 +137,16 @@ pub(crate) fn sheet_rules<'a, S: Sheet<'a> + SheetRule>(
     Ok(SheetRules::new(sheets))
 }
 
-// The first bodies as tables, beside the others as clause sheets.
-pub(crate) fn beside(
+// The sheets of one kind beside those of another: so many of the bodies, and the others.
+pub(crate) fn beside<'a, A: Sheet<'a> + SheetRule, B: Sheet<'a> + SheetRule>(
     heap: Global,
-    bodies: &[Vec<u8>],
-    tables: usize,
-) -> Result<SideBySide<TableSheets<'_>, ClauseSheets<'_>>, Fail> {
-    let (first, second) = bodies.split_at_checked(tables).ok_or("too few sheets")?;
-    let tables = sheet_rules(heap, first, 64)?;
-    let clauses = sheet_rules(heap, second, 64)?;
-    Ok(SideBySide::new(tables, clauses))
+    bodies: &'a [Vec<u8>],
+    count: usize,
+) -> Result<SideBySide<SheetRules<A>, SheetRules<B>>, Fail> {
+    let (first, second) = bodies.split_at_checked(count).ok_or("too few sheets")?;
+    let first = sheet_rules(heap, first, 64)?;
+    let second = sheet_rules(heap, second, 64)?;
+    Ok(SideBySide::new(first, second))
 }
 
 // How many tables are among the sheets in a text.
@@ -168,16 +154,35 @@ pub(crate) fn tables_in(text: &str) -> usize {
     text.split(':').count().saturating_sub(1)
 }
 
-// A draft with these entries, told 64 options and so many rules below.
-pub(crate) fn draft(heap: Global, below: u32, entries: &str) -> Result<Draft, Fail> {
-    let mut draft = Draft::new(EntrySpace::reserve(heap)?, 64, below);
-    if entries.is_empty() {
-        return Ok(draft);
+// A draft with these entries, told 64 options and so many rules below. Another number of rules to be told stands before
+// the entries, as `40: carry 7`. The entries `carried` are those that a draft has which carries the rules below.
+fn draft(heap: Global, below: u32, entries: &str) -> Result<Draft, Fail> {
+    let entries = entries.trim();
+    if entries == "carried" {
+        return Ok(Draft::carrying(EntrySpace::reserve(heap)?, 64, below));
     }
-    for entry in entries.split(';') {
+    match entries.split_once(':') {
+        Some((told, entries)) => draft_of(heap, told.parse::<u32>()?, entries),
+        None => draft_of(heap, below, entries),
+    }
+}
+
+fn draft_of(heap: Global, told: u32, entries: &str) -> Result<Draft, Fail> {
+    let mut draft = Draft::new(EntrySpace::reserve(heap)?, 64, told);
+    for entry in entries.split_terminator(';') {
         draft.add(fields_of(entry)?)?;
     }
     Ok(draft)
+}
+
+// A folder with these entries on other rules.
+pub(crate) fn lay<R: RuleSet + Drop>(
+    heap: Global,
+    below: R,
+    entries: &str,
+) -> Result<Folder<R>, Fail> {
+    let draft = draft(heap, below.count(), entries)?;
+    Ok(Folder::lay(draft, below))
 }
 
 // The fields of an entry, as `carry 0`, `product 0 and 1`, `selection 0 left 2 right 4 width 1`, `projection 0 hides 3-7 9`
@@ -185,26 +190,23 @@ pub(crate) fn draft(heap: Global, below: u32, entries: &str) -> Result<Draft, Fa
 pub(crate) fn fields_of(entry: &str) -> Result<EntryFields, Fail> {
     let (shown, hidden) = entry.split_once("hides").unwrap_or((entry, ""));
     let mut words = shown.split_whitespace();
-    let op = op_of(words.next().ok_or("no op")?)?;
-    let first = number(words.next())?;
-    let second = number(words.nth(1))?;
-    let third = number(words.nth(1))?;
-    let width = number(words.nth(1))?;
+    let op = op_of(words.next().unwrap_or(""))?;
+    let first = number(words.next());
+    let second = number(words.nth(1));
+    let third = number(words.nth(1));
+    let width = number(words.nth(1));
     Ok(EntryFields {
         op: op.code(),
         first,
         second,
         third,
-        word: u64::from(width) | mask(hidden)?,
+        word: u64::from(width) | known(hidden)?.yes_mask(),
     })
 }
 
-// A number, or 0 where there is none.
-fn number(word: Option<&str>) -> Result<u8, Fail> {
-    match word {
-        Some(word) => Ok(word.parse::<u8>()?),
-        None => Ok(0),
-    }
+// A number, or 0 where there is none. What is no number at all is 255, a rule or an option that no draft takes.
+fn number(word: Option<&str>) -> u8 {
+    word.unwrap_or("0").parse::<u8>().unwrap_or(u8::MAX)
 }
 
 fn op_of(name: &str) -> Result<Op, Fail> {

@@ -1,5 +1,5 @@
 // Replies of clause sheets.
-use crate::expect::{expect_each, expect_of_clauses};
+use crate::expect::{Asked, expect_each};
 use std::test::Fail;
 
 const CASES: &str = "
@@ -71,5 +71,5 @@ const CASES: &str = "
 
 #[test]
 fn clause_sheets(rt: HostRuntime) -> Result<(), Fail> {
-    expect_each(rt.alloc(), CASES, expect_of_clauses)
+    expect_each(rt.alloc(), Asked::Clauses, CASES)
 }

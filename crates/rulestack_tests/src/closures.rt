@@ -1,6 +1,6 @@
 // Closures, and the search for a build.
 use crate::build::{bodies, known, sheet_rules};
-use crate::expect::{expect_each, expect_of_clauses, expect_of_folder, expect_same};
+use crate::expect::{Asked, expect_each, expect_same};
 use ruleset::{RuleSet, finds_build};
 use sheet_rules::ClauseSheets;
 use std::test::Fail;
@@ -41,7 +41,7 @@ const OF_CLAUSES: &str = "
 
 #[test]
 fn clause_sheets_closed(rt: HostRuntime) -> Result<(), Fail> {
-    expect_each(rt.alloc(), OF_CLAUSES, expect_of_clauses)
+    expect_each(rt.alloc(), Asked::Clauses, OF_CLAUSES)
 }
 
 // The product of the table and the clauses, as in the example of docs/MEANING.md.
@@ -60,7 +60,7 @@ const PRODUCT: &str = "
 
 #[test]
 fn product_closed(rt: HostRuntime) -> Result<(), Fail> {
-    expect_each(rt.alloc(), PRODUCT, expect_of_folder)
+    expect_each(rt.alloc(), Asked::Folders, PRODUCT)
 }
 
 // A search: what it is about, the rule, the listed options, what is known, and whether a leaf is found.

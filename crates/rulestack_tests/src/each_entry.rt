@@ -1,11 +1,5 @@
 // Replies of a folder's entries over sheets; tests of projections have a file of their own.
-use crate::beside::yes_and_no;
-use crate::build::sheet_rules;
-use crate::expect::{expect_cases, expect_each, expect_of_folder, expect_told};
-use entries::{Draft, EntrySpace};
-use folders::Folder;
-use ruleset::RuleSet;
-use sheet_rules::ClauseSheets;
+use crate::expect::{Asked, expect_each};
 use std::test::Fail;
 
 const CASES: &str = "
@@ -122,35 +116,25 @@ const CASES: &str = "
 
 #[test]
 fn each_entry(rt: HostRuntime) -> Result<(), Fail> {
-    expect_each(rt.alloc(), CASES, expect_of_folder)
+    expect_each(rt.alloc(), Asked::Folders, CASES)
 }
 
+// A draft carries at most 32 of the rules below.
 const NUMBERS: &str = "
     numbers | 0 / no clauses | 2: none; carry 1; carry 0; carry 0; complement 1; carry 1; product 0 and 1
         count | 7
         the last | 6 | no 1 | yes 0 no 1
         absent | 7 8 31 32 63 64 255 256 4294967295
+
+    carried | -0 / -1 / -2 / -3 / -4 / -5 / -6 / -7 / -8 / -9 / -10 / -11 / -12 / -13 / -14 / -15 / -16 / -17 / -18 / \
+            -19 / -20 / -21 / -22 / -23 / -24 / -25 / -26 / -27 / -28 / -29 / -30 / -31 / -32 / -33 / -34 / -35 / -36 / -37 / -38 / -39 | carried
+        count | 32
+        the first | 0 | nothing | no 0
+        the last | 31 | nothing | no 31
+        absent | 32 33 39 40 63 64
 ";
 
 #[test]
 fn numbers(rt: HostRuntime) -> Result<(), Fail> {
-    expect_each(rt.alloc(), NUMBERS, expect_told)
-}
-
-const CARRIED: &str = "
-    count | 32
-    the first | 0 | nothing | no 0
-    the last | 31 | nothing | no 31
-    absent | 32 33 39 40 63 64
-";
-
-// A draft carries at most 32 of the rules below.
-#[test]
-fn carried(rt: HostRuntime) -> Result<(), Fail> {
-    let heap = rt.alloc();
-    let bodies = yes_and_no(heap, 0, 40)?;
-    let sheets: ClauseSheets<'_> = sheet_rules(heap, bodies.as_slice(), 64)?;
-    let draft = Draft::carrying(EntrySpace::reserve(heap)?, 64, sheets.count());
-    let mut rules = Folder::lay(draft, sheets);
-    expect_cases(&mut rules, "carried", CARRIED)
+    expect_each(rt.alloc(), Asked::Folders, NUMBERS)
 }

@@ -1,10 +1,13 @@
 // Asking rule sets in a test, and comparing what they reply. The cases stand in tables of text: blocks with an empty line
 // between them. The first line of a block says of which rule set it is, and each further line is a case.
-use crate::build::{beside, bodies, draft, in_letters, known, sheet_rules, tables_in};
+use crate::algebra::SHEETS;
+use crate::beside::expect_beside;
+use crate::build::{beside, bodies, in_letters, known, lay, sheet_rules, tables_in};
+use crate::noted::expect_over_steps;
 use assignment::Assignment;
-use folders::Folder;
 use ruleset::{RuleSet, closure};
-use sheet_rules::{ClauseSheets, TableSheets};
+use sheet_rules::{SheetRule, SheetRules};
+use sheets::{ClauseSheet, Sheet, TableSheet};
 use std::alloc::Global;
 use std::fmt::Debug;
 use std::test::Fail;
@@ -29,56 +32,57 @@ pub(crate) fn parts(line: &str) -> Result<(&str, &str, &str), Fail> {
     Ok((first.trim(), second.trim(), third.trim()))
 }
 
-// What is expected at each block of a table: of its first line, and of those behind it.
-pub(crate) fn expect_each<F: FnMut(Global, &str, &str) -> Result<(), Fail>>(
-    heap: Global,
-    table: &str,
-    mut expect: F,
-) -> Result<(), Fail>
-    requires { F.IsAlwaysCallable expect }
-{
-    for block in table.split("\n\n") {
-        let block = block.trim();
-        let (head, cases) = block.split_once('\n').unwrap_or((block, ""));
-        expect(heap, head, cases)?;
+// The rule set that the cases of a block are asked of: what the first line of the block says behind what it is about.
+#[derive(Clone, Copy)]
+pub(crate) enum Asked {
+    // How many options the file has, and its tables.
+    Tables,
+    // How many options the file has, and its clause sheets.
+    Clauses,
+    // How many tables there are, and how many clause sheets, one beside the other.
+    Beside,
+    // Tables and clause sheets, and the entries of a folder over the ones beside the others. Those of a folder over that one
+    // stand behind `/`. In place of the sheets stands `seven sheets` for those of the worked examples, or `steps`.
+    Folders,
+}
+
+pub(crate) fn expect_each(heap: Global, asked: Asked, text: &str) -> Result<(), Fail> {
+    for block in text.split("\n\n") {
+        expect_block(heap, asked, block.trim())?;
     }
     Ok(())
 }
 
-// A question with the reply that is wanted.
-#[derive(Clone, Copy)]
-pub(crate) struct Case<'a> {
-    pub(crate) about: &'a str,
-    pub(crate) rule: &'a str,
-    pub(crate) question: Assignment,
-    pub(crate) wanted: Assignment,
+fn expect_block(heap: Global, asked: Asked, block: &str) -> Result<(), Fail> {
+    let (head, cases) = block.split_once('\n').ok_or("no cases")?;
+    let (about, first, second) = parts(head)?;
+    match asked {
+        Asked::Tables => expect_tables(heap, first, second, about, cases),
+        Asked::Clauses => expect_clauses(heap, first, second, about, cases),
+        Asked::Beside => expect_beside(heap, first, second, about, cases),
+        Asked::Folders => expect_folders(heap, first, second, about, cases),
+    }
 }
 
-// The case in a line: what it is about, a rule, and the question and the reply. A reply `same` is the question.
-pub(crate) fn case_of(line: &str) -> Result<Case<'_>, Fail> {
-    let (about, rule, asked) = parts(line)?;
-    let (question, reply) = asked.split_once('|').ok_or("no reply")?;
+// A case: a rule, the question and the reply. A reply `same` is the question, and a rule `closure of 0` is asked until it
+// adds nothing.
+fn expect_case<R: RuleSet>(
+    rules: &mut R,
+    about: &str,
+    case: &str,
+    asked: &str,
+) -> Result<(), Fail> {
+    let (rule, question, reply) = parts(asked)?;
     let question = known(question)?;
-    let wanted = match reply.trim() {
+    let found = match rule.strip_prefix("closure of ") {
+        Some(rule) => closure(rules, rule.parse::<u32>()?, question),
+        None => rules.propagate(rule.parse::<u32>()?, question),
+    };
+    let wanted = match reply {
         "same" => question,
         words => known(words)?,
     };
-    Ok(Case {
-        about,
-        rule,
-        question,
-        wanted,
-    })
-}
-
-// A rule `closure of 0` is asked until it adds nothing.
-fn expect_case<R: RuleSet>(rules: &mut R, about: &str, line: &str) -> Result<(), Fail> {
-    let case = case_of(line)?;
-    let found = match case.rule.strip_prefix("closure of ") {
-        Some(rule) => closure(rules, rule.parse::<u32>()?, case.question),
-        None => rules.propagate(case.rule.parse::<u32>()?, case.question),
-    };
-    expect_same(found, case.wanted, about, case.about)
+    expect_same(found, wanted, about, case)
 }
 
 const QUESTIONS: [&str; 5] = [
@@ -105,27 +109,45 @@ fn expect_all_absent<R: RuleSet>(rules: &mut R, about: &str, numbers: &str) -> R
     Ok(())
 }
 
-// The cases of a rule set, each in a line. `count | 3` says how many rules there are, and `absent | 3 64` that those with
-// these numbers are not there.
+// The cases of a rule set, each in a line behind what it is about. `count | 3` says how many rules there are, and
+// `absent | 3 64` that those with these numbers are not there.
 pub(crate) fn expect_cases<R: RuleSet>(
     rules: &mut R,
     about: &str,
     cases: &str,
 ) -> Result<(), Fail> {
     for line in cases.trim().lines() {
-        expect_line(rules, about, line.trim())?;
+        expect_line(rules, about, line)?;
     }
     Ok(())
 }
 
 fn expect_line<R: RuleSet>(rules: &mut R, about: &str, line: &str) -> Result<(), Fail> {
-    if let Some(count) = line.strip_prefix("count | ") {
-        return expect_same(rules.count(), count.parse::<u32>()?, about, "count");
+    let (case, asked) = line.split_once('|').ok_or("only one part")?;
+    match case.trim() {
+        "count" => expect_same(rules.count(), asked.trim().parse::<u32>()?, about, "count"),
+        "absent" => expect_all_absent(rules, about, asked),
+        "letters" => expect_letters(rules, about, asked),
+        "allowed" => expect_allowed(rules, about, asked),
+        case => expect_case(rules, about, case, asked),
     }
-    match line.strip_prefix("absent | ") {
-        Some(numbers) => expect_all_absent(rules, about, numbers),
-        None => expect_case(rules, about, line),
+}
+
+// The question and the reply of rule 0 in letters, as `y?? | ynn`.
+fn expect_letters<R: RuleSet>(rules: &mut R, about: &str, asked: &str) -> Result<(), Fail> {
+    let (question, reply) = asked.split_once('|').ok_or("no reply")?;
+    let found = rules.propagate(0, in_letters(question.trim())?);
+    expect_same(found, in_letters(reply.trim())?, about, question.trim())
+}
+
+// Of so many builds, by their yeses from none on, those that rule 0 allows, as `8: ynn nyy`.
+fn expect_allowed<R: RuleSet>(rules: &mut R, about: &str, allowed: &str) -> Result<(), Fail> {
+    let (builds, allowed) = allowed.split_once(':').ok_or("no number of builds")?;
+    for yes in 0..builds.trim().parse::<u64>()? {
+        let reply = rules.propagate(0, Assignment::new(yes, !yes));
+        expect_build(reply, yes, about, allowed)?;
     }
+    Ok(())
 }
 
 // The reply to the build with these yeses: the build itself if it is among those in letters, and inconsistent if not.
@@ -152,54 +174,92 @@ fn is_among(build: u64, allowed: &str) -> Result<bool, Fail> {
     Ok(false)
 }
 
-// The head: what it is about, how many options the file has, and the tables.
-pub(crate) fn expect_of_tables(heap: Global, head: &str, cases: &str) -> Result<(), Fail> {
-    let (about, options, sheets) = parts(head)?;
-    let bodies = bodies(heap, sheets)?;
-    let mut rules: TableSheets<'_> = sheet_rules(heap, bodies.as_slice(), options.parse::<u32>()?)?;
+fn expect_tables(
+    heap: Global,
+    options: &str,
+    tables: &str,
+    about: &str,
+    cases: &str,
+) -> Result<(), Fail> {
+    let bodies = bodies(heap, tables)?;
+    expect_sheets::<TableSheet<'_>>(heap, bodies.as_slice(), options, about, cases)
+}
+
+fn expect_clauses(
+    heap: Global,
+    options: &str,
+    clauses: &str,
+    about: &str,
+    cases: &str,
+) -> Result<(), Fail> {
+    let bodies = bodies(heap, clauses)?;
+    expect_sheets::<ClauseSheet<'_>>(heap, bodies.as_slice(), options, about, cases)
+}
+
+// The cases of sheets of one kind by themselves.
+fn expect_sheets<'a, S: Sheet<'a> + SheetRule>(
+    heap: Global,
+    bodies: &'a [Vec<u8>],
+    options: &str,
+    about: &str,
+    cases: &str,
+) -> Result<(), Fail> {
+    let mut rules: SheetRules<S> = sheet_rules(heap, bodies, options.parse::<u32>()?)?;
     expect_cases(&mut rules, about, cases)
 }
 
-// The head: what it is about, how many options the file has, and the clause sheets.
-pub(crate) fn expect_of_clauses(heap: Global, head: &str, cases: &str) -> Result<(), Fail> {
-    let (about, options, sheets) = parts(head)?;
-    let bodies = bodies(heap, sheets)?;
-    let mut rules: ClauseSheets<'_> = sheet_rules(
-        heap,
-        bodies.as_slice(),
-        options.parse::<u32>()?,
-    )?;
-    expect_cases(&mut rules, about, cases)
-}
-
-// The cases of a folder with these entries over other rules, told of so many.
+// The cases of a folder with these entries over other rules.
 pub(crate) fn expect_laid<R: RuleSet + Drop>(
     heap: Global,
     below: R,
-    told: u32,
     entries: &str,
     about: &str,
     cases: &str,
 ) -> Result<(), Fail> {
-    let mut rules = Folder::lay(draft(heap, told, entries)?, below);
+    let mut rules = lay(heap, below, entries)?;
     expect_cases(&mut rules, about, cases)
 }
 
-// The head: what it is about, tables and clause sheets, and the entries of a folder over the ones beside the others.
-pub(crate) fn expect_of_folder(heap: Global, head: &str, cases: &str) -> Result<(), Fail> {
-    let (about, sheets, entries) = parts(head)?;
-    let bodies = bodies(heap, sheets)?;
-    let sheets = beside(heap, bodies.as_slice(), tables_in(sheets))?;
-    let count = sheets.count();
-    expect_laid(heap, sheets, count, entries, about, cases)
+fn expect_folders(
+    heap: Global,
+    below: &str,
+    folders: &str,
+    about: &str,
+    cases: &str,
+) -> Result<(), Fail> {
+    match below {
+        "steps" => expect_over_steps(heap, folders, about, cases),
+        "seven sheets" => expect_over(heap, SHEETS, folders, about, cases),
+        sheets => expect_over(heap, sheets, folders, about, cases),
+    }
 }
 
-// The head: what it is about, clause sheets, and behind the number of rules that a folder over them is told of, its entries.
-pub(crate) fn expect_told(heap: Global, head: &str, cases: &str) -> Result<(), Fail> {
-    let (about, clauses, folder) = parts(head)?;
-    let (told, entries) = folder.split_once(':').ok_or("no number of rules")?;
-    let told = told.parse::<u32>()?;
-    let bodies = bodies(heap, clauses)?;
-    let sheets: ClauseSheets<'_> = sheet_rules(heap, bodies.as_slice(), 64)?;
-    expect_laid(heap, sheets, told, entries.trim(), about, cases)
+fn expect_over(
+    heap: Global,
+    sheets: &str,
+    folders: &str,
+    about: &str,
+    cases: &str,
+) -> Result<(), Fail> {
+    let bodies = bodies(heap, sheets)?;
+    let sheets = beside::<TableSheet<'_>, ClauseSheet<'_>>(
+        heap,
+        bodies.as_slice(),
+        tables_in(sheets),
+    )?;
+    expect_stacked(heap, sheets, folders, about, cases)
+}
+
+// One folder over other rules, or two of them, one over the other.
+fn expect_stacked<R: RuleSet + Drop>(
+    heap: Global,
+    below: R,
+    folders: &str,
+    about: &str,
+    cases: &str,
+) -> Result<(), Fail> {
+    match folders.split_once('/') {
+        None => expect_laid(heap, below, folders, about, cases),
+        Some((lower, upper)) => expect_laid(heap, lay(heap, below, lower)?, upper, about, cases),
+    }
 }

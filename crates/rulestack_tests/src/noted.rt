@@ -1,11 +1,10 @@
 // Folders over a rule set of another kind, which keeps notes and leaves an inconsistent question as it is. If option 0
 // is yes, its rule 0 adds that 1 is yes; if option 2 is yes, its rule 1 adds that 1 is yes and 3 no.
-use crate::build::{draft, known};
+use crate::build::{known, lay};
 use crate::closures::{Search, expect_searches};
-use crate::expect::{expect_cases, expect_each, expect_laid, expect_same};
+use crate::expect::{Asked, expect_cases, expect_each, expect_laid, expect_same};
 use crate::steps::{Notes, Step, Steps};
 use assignment::Assignment;
-use folders::Folder;
 use ruleset::RuleSet;
 use std::alloc::Global;
 use std::cell::Cell;
@@ -53,7 +52,7 @@ fn on_its_own() -> Result<(), Fail> {
 
 // Entries over the steps.
 const OVER_STEPS: &str = "
-    inconsistent questions | carry 0; product 0 and 1; either 0 or 1; selection 0 left 4 right 8 width 1; \
+    inconsistent questions | steps | carry 0; product 0 and 1; either 0 or 1; selection 0 left 4 right 8 width 1; \
             projection 0 hides 9; complement 0; none
         carry | 0 | both 9 | same
         carry, and it adds | 0 | yes 0 both 9 | yes 0 1 both 9
@@ -69,7 +68,7 @@ const OVER_STEPS: &str = "
         complement, nothing else unknown | 5 | no 0-63 yes 0 both 9 | contradiction
         none | 6 | both 9 | contradiction
 
-    other questions | carry 1; product 0 and 1; either 0 or 1; selection 0 left 1 right 8 width 1; \
+    other questions | steps | carry 1; product 0 and 1; either 0 or 1; selection 0 left 1 right 8 width 1; \
             projection 0 hides 1; projection 0 hides; complement 0
         carry | 0 | yes 2 | yes 1 2 no 3
         carry, a build refused | 0 | no 0-63 yes 2 | no 0-63 yes 2 both 1
@@ -92,15 +91,19 @@ const OVER_STEPS: &str = "
         complement, unfinished | 6 | yes 0 no 1 | same
 ";
 
-fn expect_over_steps(heap: Global, head: &str, cases: &str) -> Result<(), Fail> {
-    let (about, entries) = head.split_once('|').ok_or("no entries")?;
+pub(crate) fn expect_over_steps(
+    heap: Global,
+    entries: &str,
+    about: &str,
+    cases: &str,
+) -> Result<(), Fail> {
     let notes = Cell::new(no_notes());
-    expect_laid(heap, steps(&notes), 2, entries, about.trim(), cases)
+    expect_laid(heap, steps(&notes), entries, about, cases)
 }
 
 #[test]
 fn folders_over_steps(rt: HostRuntime) -> Result<(), Fail> {
-    expect_each(rt.alloc(), OVER_STEPS, expect_over_steps)
+    expect_each(rt.alloc(), Asked::Folders, OVER_STEPS)
 }
 
 // An entry, what it is asked, and how many questions the rules below have noted then.
@@ -116,7 +119,7 @@ const NOTED: [(&str, &str, u64); 7] = [
 
 fn noted(heap: Global, entry: &str, question: &str) -> Result<u64, Fail> {
     let notes = Cell::new(no_notes());
-    let mut rules = Folder::lay(draft(heap, 2, entry)?, steps(&notes));
+    let mut rules = lay(heap, steps(&notes), entry)?;
     let _reply = rules.propagate(0, known(question)?);
     Ok(notes.get().asked)
 }
@@ -145,7 +148,6 @@ fn asked_twice(rt: HostRuntime) -> Result<(), Fail> {
     expect_laid(
         rt.alloc(),
         steps(&notes),
-        2,
         entries,
         "asked twice",
         ASKED_TWICE,

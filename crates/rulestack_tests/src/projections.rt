@@ -1,9 +1,5 @@
 // Replies of projections.
-use crate::build::{bodies, draft, sheet_rules};
-use crate::expect::{expect_each, expect_laid, expect_of_folder, parts};
-use folders::Folder;
-use sheet_rules::ClauseSheets;
-use std::alloc::Global;
+use crate::expect::{Asked, expect_each};
 use std::test::Fail;
 
 // In the search, no value of 0 and 1 meets the first sheet's four clauses, and yet each of them has two values left.
@@ -78,7 +74,7 @@ const OVER_SHEETS: &str = "
 
 #[test]
 fn over_sheets(rt: HostRuntime) -> Result<(), Fail> {
-    expect_each(rt.alloc(), OVER_SHEETS, expect_of_folder)
+    expect_each(rt.alloc(), Asked::Folders, OVER_SHEETS)
 }
 
 // Behind the clause sheets stand the entries of the folder over them, and those of the folder over that one. A selection
@@ -121,16 +117,7 @@ const OVER_A_FOLDER: &str = "
         fifteen hidden, the last fits | 2 | no 0 16-63 | same
 ";
 
-fn expect_stacked(heap: Global, head: &str, cases: &str) -> Result<(), Fail> {
-    let (about, clauses, folders) = parts(head)?;
-    let (lower, upper) = folders.split_once('/').ok_or("only one folder")?;
-    let bodies = bodies(heap, clauses)?;
-    let sheets: ClauseSheets<'_> = sheet_rules(heap, bodies.as_slice(), 64)?;
-    let below = Folder::lay(draft(heap, 32, lower)?, sheets);
-    expect_laid(heap, below, 32, upper, about, cases)
-}
-
 #[test]
 fn over_a_folder(rt: HostRuntime) -> Result<(), Fail> {
-    expect_each(rt.alloc(), OVER_A_FOLDER, expect_stacked)
+    expect_each(rt.alloc(), Asked::Folders, OVER_A_FOLDER)
 }

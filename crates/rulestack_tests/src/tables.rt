@@ -1,5 +1,5 @@
 // Replies of table sheets.
-use crate::expect::{expect_each, expect_of_tables};
+use crate::expect::{Asked, expect_each};
 use std::test::Fail;
 
 const CASES: &str = "
@@ -52,6 +52,16 @@ const CASES: &str = "
         the third | 2 | nothing | contradiction
         absent | 3 4 31 32 63 64 256 4294967295
 
+    more than 64 tables | 64 | 0: y / 1: y / 2: y / 3: y / 4: y / 5: y / 6: y / 7: y / 8: y / 9: y / 10: y / 11: y / \
+            12: y / 13: y / 14: y / 15: y / 16: y / 17: y / 18: y / 19: y / 20: y / 21: y / 22: y / 23: y / 24: y / \
+            25: y / 26: y / 27: y / 28: y / 29: y / 30: y / 31: y / 32: y / 33: y / 34: y / 35: y / 36: y / 37: y / \
+            38: y / 39: y / 40: y / 41: y / 42: y / 43: y / 44: y / 45: y / 46: y / 47: y / 48: y / 49: y / 50: y / \
+            51: y / 52: y / 53: y / 54: y / 55: y / 56: y / 57: y / 58: y / 59: y / 60: y / 61: y / 62: y / 63: y / \
+            0: y / 1: y / 2: y / 3: y / 4: y / 5: y
+        count | 64
+        the last | 63 | nothing | yes 63
+        absent | 64 69 70
+
     no tables | 64 |
         count | 0
         absent | 0 1 63 64 4294967295
@@ -59,5 +69,5 @@ const CASES: &str = "
 
 #[test]
 fn table_sheets(rt: HostRuntime) -> Result<(), Fail> {
-    expect_each(rt.alloc(), CASES, expect_of_tables)
+    expect_each(rt.alloc(), Asked::Tables, CASES)
 }

@@ -1,6 +1,6 @@
 // Drafts that were told another number of rules than the rule set has on which they are laid. The clause sheet `4` adds that
 // option 4 is yes.
-use crate::expect::{expect_each, expect_told};
+use crate::expect::{Asked, expect_each};
 use std::test::Fail;
 
 const CASES: &str = "
@@ -69,5 +69,5 @@ const CASES: &str = "
 
 #[test]
 fn another_number_told(rt: HostRuntime) -> Result<(), Fail> {
-    expect_each(rt.alloc(), CASES, expect_told)
+    expect_each(rt.alloc(), Asked::Folders, CASES)
 }

@@ -1,5 +1,5 @@
 // The worked examples of replies in docs/PROOFS.md, run.
-use crate::expect::{expect_each, expect_of_folder};
+use crate::expect::{Asked, expect_each};
 use std::test::Fail;
 
 const CASES: &str = "
@@ -20,5 +20,5 @@ const CASES: &str = "
 
 #[test]
 fn worked_examples(rt: HostRuntime) -> Result<(), Fail> {
-    expect_each(rt.alloc(), CASES, expect_of_folder)
+    expect_each(rt.alloc(), Asked::Folders, CASES)
 }
