@@ -57,8 +57,8 @@ fn expect_block(heap: Global, asked: Asked, block: &str) -> Result<(), Fail> {
     let (head, cases) = block.split_once('\n').ok_or("no cases")?;
     let (about, first, second) = parts(head)?;
     match asked {
-        Asked::Tables => expect_tables(heap, first, second, about, cases),
-        Asked::Clauses => expect_clauses(heap, first, second, about, cases),
+        Asked::Tables => expect_tables_or_clauses(heap, true, first, second, about, cases),
+        Asked::Clauses => expect_tables_or_clauses(heap, false, first, second, about, cases),
         Asked::Beside => expect_beside(heap, first, second, about, cases),
         Asked::Folders => expect_folders(heap, first, second, about, cases),
     }
@@ -174,26 +174,20 @@ fn is_among(build: u64, allowed: &str) -> Result<bool, Fail> {
     Ok(false)
 }
 
-fn expect_tables(
+fn expect_tables_or_clauses(
     heap: Global,
+    are_tables: bool,
     options: &str,
-    tables: &str,
+    sheets: &str,
     about: &str,
     cases: &str,
 ) -> Result<(), Fail> {
-    let bodies = bodies(heap, tables)?;
-    expect_sheets::<TableSheet<'_>>(heap, bodies.as_slice(), options, about, cases)
-}
-
-fn expect_clauses(
-    heap: Global,
-    options: &str,
-    clauses: &str,
-    about: &str,
-    cases: &str,
-) -> Result<(), Fail> {
-    let bodies = bodies(heap, clauses)?;
-    expect_sheets::<ClauseSheet<'_>>(heap, bodies.as_slice(), options, about, cases)
+    let bodies = bodies(heap, sheets)?;
+    let bodies = bodies.as_slice();
+    if are_tables {
+        return expect_sheets::<TableSheet<'_>>(heap, bodies, options, about, cases);
+    }
+    expect_sheets::<ClauseSheet<'_>>(heap, bodies, options, about, cases)
 }
 
 // The cases of sheets of one kind by themselves.
