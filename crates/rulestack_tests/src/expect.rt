@@ -174,6 +174,7 @@ fn is_among(build: u64, allowed: &str) -> Result<bool, Fail> {
     Ok(false)
 }
 
+// The cases of tables by themselves, or of clause sheets.
 fn expect_tables_or_clauses(
     heap: Global,
     are_tables: bool,
@@ -190,7 +191,6 @@ fn expect_tables_or_clauses(
     expect_sheets::<ClauseSheet<'_>>(heap, bodies, options, about, cases)
 }
 
-// The cases of sheets of one kind by themselves.
 fn expect_sheets<'a, S: Sheet<'a> + SheetRule>(
     heap: Global,
     bodies: &'a [Vec<u8>],
@@ -228,6 +228,7 @@ fn expect_folders(
     }
 }
 
+// The cases of folders over sheets: the tables beside the clause sheets.
 fn expect_over(
     heap: Global,
     sheets: &str,

@@ -1,6 +1,6 @@
 // Folders over a rule set of another kind, which keeps notes and leaves an inconsistent question as it is. If option 0
 // is yes, its rule 0 adds that 1 is yes; if option 2 is yes, its rule 1 adds that 1 is yes and 3 no.
-use crate::build::{known, lay};
+use crate::build::known;
 use crate::closures::{Search, expect_searches};
 use crate::expect::{Asked, expect_cases, expect_each, expect_laid, expect_same};
 use crate::steps::{Notes, Step, Steps};
@@ -106,29 +106,41 @@ fn folders_over_steps(rt: HostRuntime) -> Result<(), Fail> {
     expect_each(rt.alloc(), Asked::Folders, OVER_STEPS)
 }
 
-// An entry, what it is asked, and how many questions the rules below have noted then.
+// An entry, a case of it, and how many questions the rules below have noted then.
 const NOTED: [(&str, &str, u64); 7] = [
-    ("carry 0", "both 9", 1),
-    ("product 0 and 1", "yes 0", 2),
-    ("either 0 or 1", "yes 0", 2),
-    ("selection 0 left 4 right 8 width 1", "yes 0", 1),
-    ("projection 0 hides 9", "yes 0", 1),
-    ("complement 0", "no 0-63", 1),
-    ("none", "yes 0", 0),
+    ("carry 0", "carry | 0 | both 9 | same", 1),
+    ("product 0 and 1", "product | 0 | yes 0 | yes 0 1", 2),
+    ("either 0 or 1", "either | 0 | yes 0 | same", 2),
+    (
+        "selection 0 left 4 right 8 width 1",
+        "selection | 0 | yes 0 | yes 0 1",
+        1,
+    ),
+    (
+        "projection 0 hides 9",
+        "projection | 0 | yes 0 | yes 0 1",
+        1,
+    ),
+    (
+        "complement 0",
+        "complement | 0 | no 0-63 | contradiction",
+        1,
+    ),
+    ("none", "none | 0 | yes 0 | contradiction", 0),
 ];
 
-fn noted(heap: Global, entry: &str, question: &str) -> Result<u64, Fail> {
+// What the steps have noted after the cases of a folder over them.
+fn notes_after(heap: Global, entries: &str, about: &str, cases: &str) -> Result<Notes, Fail> {
     let notes = Cell::new(no_notes());
-    let mut rules = lay(heap, steps(&notes), entry)?;
-    let _reply = rules.propagate(0, known(question)?);
-    Ok(notes.get().asked)
+    expect_laid(heap, steps(&notes), entries, about, cases)?;
+    Ok(notes.get())
 }
 
 #[test]
 fn questions_noted(rt: HostRuntime) -> Result<(), Fail> {
-    for (entry, question, wanted) in &NOTED {
-        let found = noted(rt.alloc(), entry, question)?;
-        expect_same(found, *wanted, "questions noted", entry)?;
+    for (entry, case, wanted) in &NOTED {
+        let notes = notes_after(rt.alloc(), entry, "questions noted", case)?;
+        expect_same(notes.asked, *wanted, "questions noted", entry)?;
     }
     Ok(())
 }
@@ -143,16 +155,12 @@ const ASKED_TWICE: &str = "
 
 #[test]
 fn asked_twice(rt: HostRuntime) -> Result<(), Fail> {
-    let notes = Cell::new(no_notes());
-    let entries = "carry 0; carry 1";
-    expect_laid(
+    let Notes { asked, last } = notes_after(
         rt.alloc(),
-        steps(&notes),
-        entries,
+        "carry 0; carry 1",
         "asked twice",
         ASKED_TWICE,
     )?;
-    let Notes { asked, last } = notes.get();
     expect_same(asked, 4, "asked twice", "questions noted")?;
     let wanted = (known("yes 0 both 9")?, known("yes 0 1 both 9")?);
     expect_same(last, Some(wanted), "asked twice", "last question and reply")
