@@ -1,13 +1,14 @@
 // What is called between the portions of a listing: a refused call or a look lets it go on where it stood, any other
 // begins it anew.
-use crate::expect::expect_of_sample;
+use crate::expect::expect_runs;
 use std::test::Fail;
 
 #[test]
-fn goes_on_where_it_halted(rt: HostRuntime) -> Result<(), Fail> {
-    expect_of_sample(
+fn between_the_portions(rt: HostRuntime) -> Result<(), Fail> {
+    expect_runs(
         rt.alloc(),
         "
+        goes on where it halted:
         settle 4 yes | refused 21
         back | refused 23
         next 2 | stopped 2
@@ -19,15 +20,8 @@ fn goes_on_where_it_halted(rt: HostRuntime) -> Result<(), Fail> {
         look | known ????
         look | known ????
         next 1 | built yyyy 1
-        ",
-    )
-}
 
-#[test]
-fn goes_on_from_a_build(rt: HostRuntime) -> Result<(), Fail> {
-    expect_of_sample(
-        rt.alloc(),
-        "
+        goes on from a build:
         next 3 | built yyyy 3
         settle 4 yes | refused 21
         next 0 | built yyyn 0
@@ -37,15 +31,8 @@ fn goes_on_from_a_build(rt: HostRuntime) -> Result<(), Fail> {
         next 0 | stopped 0
         look | known ????
         next 9 | built nyyy 3
-        ",
-    )
-}
 
-#[test]
-fn goes_on_with_a_settlement(rt: HostRuntime) -> Result<(), Fail> {
-    expect_of_sample(
-        rt.alloc(),
-        "
+        goes on with a settlement:
         settle 3 yes | done
         next 1 | stopped 1
         settle 3 yes | refused 22
@@ -66,15 +53,8 @@ fn goes_on_with_a_settlement(rt: HostRuntime) -> Result<(), Fail> {
         settle 4 no | refused 21
         look | known ???y
         next 9 | end 0
-        ",
-    )
-}
 
-#[test]
-fn stays_ended(rt: HostRuntime) -> Result<(), Fail> {
-    expect_of_sample(
-        rt.alloc(),
-        "
+        stays ended:
         next 9 | built yyyy 3
         next 9 | built yyyn 0
         next 9 | built yyny 0
@@ -87,15 +67,8 @@ fn stays_ended(rt: HostRuntime) -> Result<(), Fail> {
         settle 4 yes | refused 21
         look | known ????
         next 9 | end 0
-        ",
-    )
-}
 
-#[test]
-fn begins_anew(rt: HostRuntime) -> Result<(), Fail> {
-    expect_of_sample(
-        rt.alloc(),
-        "
+        begins anew:
         next 2 | stopped 2
         again | done
         next 1 | stopped 1

@@ -1,7 +1,6 @@
 // Assignments and clause sheets written as words, and enquiries opened on them.
 use assignment::Assignment;
 use enquiry::Enquiry;
-use file_enquiry::{FileEnquiry, FileSpace, open_file};
 use refusals::Body;
 use ruleset::RuleSet;
 use sheet_rules::ClauseSheets;
@@ -97,16 +96,6 @@ pub(crate) fn clause_sheets<'a>(
     Ok(ClauseSheets::new(sheets))
 }
 
-// An enquiry on the rule of one clause sheet.
-pub(crate) fn opened_sheet<'a>(
-    heap: Global,
-    body: &'a [u8],
-    options: u32,
-    start: Assignment,
-) -> Result<Enquiry<ClauseSheets<'a>>, Fail> {
-    opened(clause_sheets(heap, &[body])?, options, start, 0)
-}
-
 // An enquiry that is to open.
 pub(crate) fn opened<R: RuleSet + Drop>(
     rules: R,
@@ -116,12 +105,4 @@ pub(crate) fn opened<R: RuleSet + Drop>(
 ) -> Result<Enquiry<R>, Fail> {
     let opened = Enquiry::open(rules, options, start, rule).ok();
     Ok(opened.ok_or("the enquiry is not opened")?)
-}
-
-// An enquiry on a file that is to be read.
-pub(crate) fn opened_file(heap: Global, bytes: &[u8]) -> Result<FileEnquiry<'_>, Fail> {
-    match open_file(FileSpace::reserve(heap)?, bytes) {
-        Ok(enquiry) => Ok(enquiry),
-        Err(_) => Err(Fail::new("the file is refused")),
-    }
 }

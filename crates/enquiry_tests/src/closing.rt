@@ -1,28 +1,17 @@
 // Closing an enquiry: the last build that was given since the listing began, and the rule set.
-use crate::build::{SAMPLE, opened_file};
-use crate::expect::{FOUR, closed_after, expect_asked, expect_same};
-use enquiry::{Closed, Enquiry};
-use listing::Build;
-use ruleset::RuleSet;
+use crate::build::SAMPLE;
+use crate::expect::{FOUR, Run, Then, expect_of_file};
 use std::alloc::Global;
 use std::test::Fail;
 
 // Closed after these calls on the sample, an enquiry gives this build, or none.
 fn expect_last(heap: Global, calls: &str, yes: Option<u64>) -> Result<(), Fail> {
-    expect_closed(heap, opened_file(heap, SAMPLE)?, calls, yes)
-}
-
-// The rules of the sample are given back with the last build.
-fn expect_closed<R: RuleSet + Drop>(
-    heap: Global,
-    enquiry: Enquiry<R>,
-    calls: &str,
-    yes: Option<u64>,
-) -> Result<(), Fail> {
-    let Closed { mut rules, last } = closed_after(heap, enquiry, FOUR, calls)?;
-    expect_same(last, yes.map(|yes| Build { yes }), calls)?;
-    expect_same(rules.count(), 1, "the rules given back")?;
-    expect_asked(&mut rules, 0, "no 1", "no 0 1 2")
+    let run = Run {
+        about: calls,
+        shown: FOUR,
+        calls,
+    };
+    expect_of_file(heap, SAMPLE, run, Then::Last(yes))
 }
 
 const WITHOUT_A_BUILD: [&str; 11] = [

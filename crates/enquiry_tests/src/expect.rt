@@ -1,16 +1,18 @@
 // Running an enquiry in a test, and comparing what it answers.
-use crate::build::{SAMPLE, known, opened_file, opened_sheet};
-use crate::words::{InWords, call_of};
+use crate::build::{SAMPLE, clause_sheets, known, opened};
+use crate::portions::expect_in_portions;
+use crate::words::{InWords, line_of};
 use assignment::Assignment;
 use enquiry::{Closed, Enquiry};
-use listing::Progress;
+use file_enquiry::{FileSpace, open_file};
+use listing::{Build, Progress};
 use ruleset::RuleSet;
 use std::alloc::Global;
-use std::fmt::Debug;
+use std::fmt::{Debug, Display};
 use std::test::Fail;
 
 // The options of a small file, as the example of docs/FORMAT.md.
-pub(crate) const FOUR: &[u32; 4] = &[0, 1, 2, 3];
+pub(crate) const FOUR: &[u32] = &[0, 1, 2, 3];
 
 // What was found is what the case wants.
 pub(crate) fn expect_same<T: PartialEq + Debug + Copy>(
@@ -24,89 +26,132 @@ pub(crate) fn expect_same<T: PartialEq + Debug + Copy>(
     Ok(())
 }
 
-// The reply to the call of this line is so in words.
-pub(crate) fn expect_reply(
+// What was found is so in words. The case is told by what it is about, and by a line or a place.
+pub(crate) fn expect_words<T: Display + Copy>(
     heap: Global,
-    line: usize,
-    call: &str,
-    reply: InWords,
+    found: T,
     wanted: &str,
+    about: &str,
+    line: usize,
 ) -> Result<(), Fail> {
-    let found = format!(in heap; "{reply}")?;
-    if found.as_str() != wanted {
-        return Err(Fail::new(format_args!("line {line}, {call}: {found} is not {wanted}")));
+    let words = format!(in heap; "{found}")?;
+    if words.as_str() != wanted {
+        return Err(Fail::new(format_args!("{about}, line {line}: {words} is not {wanted}")));
     }
     Ok(())
 }
 
-// Each line is a call, a `|`, and the reply that is wanted, with a letter for each option that is shown.
+// Each line of the calls is a call, a `|`, and the reply that is wanted, with a letter for each option that is shown.
+#[derive(Clone, Copy)]
+pub(crate) struct Run<'a> {
+    pub(crate) about: &'a str,
+    pub(crate) shown: &'a [u32],
+    pub(crate) calls: &'a str,
+}
+
 pub(crate) fn expect_calls<R: RuleSet>(
     heap: Global,
     enquiry: &mut Enquiry<R>,
-    shown: &[u32],
-    calls: &str,
+    run: Run,
 ) -> Result<(), Fail> {
+    let Run {
+        about,
+        shown,
+        calls,
+    } = run;
     for (line, text) in calls.trim().lines().enumerate() {
-        let (call, wanted) = text.split_once('|').ok_or("no reply")?;
-        let reply = enquiry.answer(call_of(call)?);
-        expect_reply(
-            heap,
-            line,
-            call.trim(),
-            InWords { reply, shown },
-            wanted.trim(),
-        )?;
+        let (call, wanted) = line_of(text).ok_or("not a call with its reply")?;
+        let reply = enquiry.answer(call);
+        expect_words(heap, InWords { reply, shown }, wanted, about, line)?;
     }
     Ok(())
 }
 
-// The same on an enquiry that is then closed.
-pub(crate) fn closed_after<R: RuleSet + Drop>(
-    heap: Global,
-    enquiry: Enquiry<R>,
-    shown: &[u32],
-    calls: &str,
-) -> Result<Closed<R>, Fail> {
-    let mut enquiry = enquiry;
-    expect_calls(heap, &mut enquiry, shown, calls)?;
-    Ok(enquiry.close())
+// The rule of a clause sheet with this body, and what it is opened with.
+#[derive(Clone, Copy)]
+pub(crate) struct OpenedSheet<'a> {
+    pub(crate) body: &'a [u8],
+    pub(crate) options: u32,
+    pub(crate) start: Assignment,
 }
 
-// The same on an enquiry that is for nothing else.
-pub(crate) fn expect_all_calls<R: RuleSet + Drop>(
+// What is expected of an enquiry after its calls.
+#[derive(Clone, Copy)]
+pub(crate) enum Then<'a> {
+    Nothing,
+    // Closed, it gives back the rules of the sample, and this last build.
+    Last(Option<u64>),
+    // It lists these builds, however it is stopped.
+    Lists(Listed<'a>),
+}
+
+pub(crate) fn expect_run<R: RuleSet + Drop>(
     heap: Global,
     enquiry: Enquiry<R>,
-    shown: &[u32],
-    calls: &str,
+    run: Run,
+    then: Then,
 ) -> Result<(), Fail> {
     let mut enquiry = enquiry;
-    expect_calls(heap, &mut enquiry, shown, calls)
+    expect_calls(heap, &mut enquiry, run)?;
+    match then {
+        Then::Nothing => Ok(()),
+        Then::Last(yes) => expect_closed(enquiry.close(), yes, run.calls),
+        Then::Lists(listed) => expect_in_portions(&mut enquiry, listed),
+    }
+}
+
+fn expect_closed<R: RuleSet + Drop>(
+    closed: Closed<R>,
+    yes: Option<u64>,
+    case: &str,
+) -> Result<(), Fail> {
+    let Closed { mut rules, last } = closed;
+    expect_same(last, yes.map(|yes| Build { yes }), case)?;
+    expect_same(rules.count(), 1, "the rules given back")?;
+    expect_asked(&mut rules, 0, "no 1", "no 0 1 2")
 }
 
 // The same on a file with four options.
-pub(crate) fn expect_of_file(heap: Global, bytes: &[u8], calls: &str) -> Result<(), Fail> {
-    expect_all_calls(heap, opened_file(heap, bytes)?, FOUR, calls)
-}
-
-pub(crate) fn expect_of_sample(heap: Global, calls: &str) -> Result<(), Fail> {
-    expect_of_file(heap, SAMPLE, calls)
+pub(crate) fn expect_of_file(heap: Global, bytes: &[u8], run: Run, then: Then) -> Result<(), Fail> {
+    match open_file(FileSpace::reserve(heap)?, bytes) {
+        Ok(enquiry) => expect_run(heap, enquiry, run, then),
+        Err(_) => Err(Fail::new("the file is refused")),
+    }
 }
 
 // The same on a clause sheet.
 pub(crate) fn expect_of_sheet(
     heap: Global,
-    body: &[u8],
-    options: u32,
-    start: Assignment,
-    shown: &[u32],
-    calls: &str,
+    sheet: OpenedSheet,
+    run: Run,
+    then: Then,
 ) -> Result<(), Fail> {
-    expect_all_calls(
+    let OpenedSheet {
+        body,
+        options,
+        start,
+    } = sheet;
+    expect_run(
         heap,
-        opened_sheet(heap, body, options, start)?,
-        shown,
-        calls,
+        opened(clause_sheets(heap, &[body])?, options, start, 0)?,
+        run,
+        then,
     )
+}
+
+// Runs on the sample apart from each other, with an empty line between them. Above the calls of each stands what it is
+// about.
+pub(crate) fn expect_runs(heap: Global, runs: &str) -> Result<(), Fail> {
+    for text in runs.split("\n\n") {
+        let (about, calls) = text.trim().split_once('\n').ok_or("no calls")?;
+        let run = Run {
+            about,
+            shown: FOUR,
+            calls,
+        };
+        expect_of_file(heap, SAMPLE, run, Then::Nothing)?;
+    }
+    Ok(())
 }
 
 // A rule replies so to a question.
@@ -137,7 +182,9 @@ pub(crate) fn expect_listed<R: RuleSet>(
     let mut left = wanted;
     for _ in 0..500 {
         for budget in budgets {
-            if has_ended(enquiry, *budget, &mut left)? {
+            let progress = enquiry.next(*budget);
+            left = left_after(progress, *budget, left)?;
+            if let Progress::End { .. } = progress {
                 return Ok(());
             }
         }
@@ -145,41 +192,26 @@ pub(crate) fn expect_listed<R: RuleSet>(
     Err(Fail::new("the listing does not end"))
 }
 
-// Whether this call comes to the end of a listing that has so much left.
-fn has_ended<R: RuleSet>(
-    enquiry: &mut Enquiry<R>,
-    budget: u32,
-    left: &mut Listed,
-) -> Result<bool, Fail> {
-    let progress = enquiry.next(budget);
-    let opened = opened_of(progress, budget)?;
-    left.choices = left.choices.checked_sub(opened).ok_or("a choice too many")?;
-    match progress {
-        Progress::Stopped { .. } => Ok(false),
-        Progress::Built { build, .. } => {
-            let (wanted, others) = left.builds.split_first().ok_or("a build too many")?;
-            left.builds = others;
-            expect_same(build.yes, *wanted, "the next build")?;
-            Ok(false)
+// What is left of a listing after a call that was to come.
+fn left_after<'a>(progress: Progress, budget: u32, left: Listed<'a>) -> Result<Listed<'a>, Fail> {
+    let Listed { builds, choices } = left;
+    let after = match (progress, builds) {
+        (Progress::Stopped { opened }, _) if opened == budget => Some((builds, opened)),
+        (Progress::Built { build, opened }, [first, rest @ ..])
+            if opened <= budget && build.yes == *first => { Some((rest, opened)) }
+        (Progress::End { opened }, []) if opened <= budget && opened == choices => {
+            Some((builds, opened))
         }
-        Progress::End { .. } => {
-            expect_same(left.builds.len(), 0, "builds left at the end")?;
-            expect_same(left.choices, 0, "choices left at the end")?;
-            Ok(true)
-        }
-    }
-}
-
-// The choices that a call opened.
-fn opened_of(progress: Progress, budget: u32) -> Result<u32, Fail> {
-    match progress {
-        Progress::Stopped { opened } => {
-            expect_same(opened, budget, "all of the budget")?;
-            Ok(opened)
-        }
-        Progress::Built { opened, .. } | Progress::End { opened } => {
-            expect_same(opened <= budget, true, "within the budget")?;
-            Ok(opened)
-        }
+        _ => None,
+    };
+    match after {
+        Some((builds, opened)) if opened <= choices => Ok(Listed {
+            builds,
+            choices: choices.saturating_sub(opened),
+        }),
+        _ => Err(Fail::new(format_args!(
+            "{progress:?} by a budget of {budget}, where {} builds and {choices} choices are left",
+            builds.len()
+        ))),
     }
 }

@@ -1,11 +1,10 @@
 // What is refused at opening, in which order, and with the rule set given back.
 use crate::build::{NO_CLAUSES, SAMPLE, clause_sheets, known};
-use crate::expect::{expect_asked, expect_same};
+use crate::expect::{expect_asked, expect_same, expect_words};
 use crate::steps::{Steps, sample_steps};
 use assignment::Assignment;
 use enquiry::{Enquiry, NotOpened};
 use file_enquiry::{FileSpace, open_file};
-use refusals::FileFault;
 use ruleset::RuleSet;
 use std::alloc::Global;
 use std::test::Fail;
@@ -40,87 +39,68 @@ fn asked_once() -> Result<Steps, Fail> {
 // An enquiry on two rules is refused with this number, or opened. The rule set that is given back was asked once, as
 // before, and answers as ever.
 fn expect_opening(options: u32, start: &str, rule: u32, refused: Option<u8>) -> Result<(), Fail> {
-    let tried = try_to_open(asked_once()?, options, known(start)?, rule);
-    expect_same(tried.refused, refused, start)?;
-    expect_given_back(tried.rules)
-}
-
-fn expect_given_back(rules: Steps) -> Result<(), Fail> {
-    let mut rules = rules;
-    expect_same(rules.count(), 2, "the rules given back")?;
-    expect_same(rules.notes.asked, 1, "their notes")?;
+    let Tried {
+        refused: found,
+        mut rules,
+    } = try_to_open(asked_once()?, options, known(start)?, rule);
+    expect_same(
+        (found, rules.count(), rules.notes.asked),
+        (refused, 2, 1),
+        start,
+    )?;
     expect_asked(&mut rules, 0, "yes 0", "yes 0 1")
 }
 
-// The options, the start, the rule, and the number of the refusal.
-const ONE_FAULT: [(u32, &str, u32, u8); 20] = [
-    (0, "nothing", 0, 9),
-    (65, "nothing", 0, 9),
-    (66, "nothing", 1, 9),
-    (256, "nothing", 1, 9),
-    (u32::MAX, "nothing", 0, 9),
-    (4, "yes 4", 0, 7),
-    (4, "no 4", 0, 7),
-    (4, "yes 63", 0, 7),
-    (1, "no 1", 0, 7),
-    (63, "yes 63", 0, 7),
-    (63, "no 63", 0, 7),
-    (4, "both 0", 0, 8),
-    (4, "yes 0-2 no 2-3 both 2", 0, 8),
-    (64, "both 63", 0, 8),
-    (64, "contradiction", 0, 8),
-    (4, "nothing", 2, 10),
-    (4, "yes 0 no 1", 3, 10),
-    (64, "nothing", 64, 10),
-    (64, "nothing", 256, 10),
-    (64, "nothing", u32::MAX, 10),
+// The options, the start, the rule, and the number of the refusal if there is one.
+const OPENINGS: [(u32, &str, u32, Option<u8>); 39] = [
+    // One fault.
+    (0, "nothing", 0, Some(9)),
+    (65, "nothing", 0, Some(9)),
+    (66, "nothing", 1, Some(9)),
+    (256, "nothing", 1, Some(9)),
+    (u32::MAX, "nothing", 0, Some(9)),
+    (4, "yes 4", 0, Some(7)),
+    (4, "no 4", 0, Some(7)),
+    (4, "yes 63", 0, Some(7)),
+    (1, "no 1", 0, Some(7)),
+    (63, "yes 63", 0, Some(7)),
+    (63, "no 63", 0, Some(7)),
+    (4, "both 0", 0, Some(8)),
+    (4, "yes 0-2 no 2-3 both 2", 0, Some(8)),
+    (64, "both 63", 0, Some(8)),
+    (64, "contradiction", 0, Some(8)),
+    (4, "nothing", 2, Some(10)),
+    (4, "yes 0 no 1", 3, Some(10)),
+    (64, "nothing", 64, Some(10)),
+    (64, "nothing", 256, Some(10)),
+    (64, "nothing", u32::MAX, Some(10)),
+    // More faults: the number is that of the first.
+    (0, "yes 0", 0, Some(9)),
+    (0, "both 0", 0, Some(9)),
+    (0, "nothing", 2, Some(9)),
+    (0, "contradiction", 9, Some(9)),
+    (65, "both 0", 0, Some(9)),
+    (65, "contradiction", 9, Some(9)),
+    (4, "yes 4 both 0", 0, Some(7)),
+    (4, "no 4 both 0", 0, Some(7)),
+    (4, "both 4", 0, Some(7)),
+    (4, "no 63", 2, Some(7)),
+    (4, "contradiction", 2, Some(7)),
+    (4, "both 3", 2, Some(8)),
+    (64, "contradiction", u32::MAX, Some(8)),
+    // No fault.
+    (1, "nothing", 0, None),
+    (1, "yes 0", 1, None),
+    (4, "yes 3 no 0-2", 0, None),
+    (63, "yes 62", 0, None),
+    (64, "yes 63 no 0", 1, None),
+    (64, "yes 0-31 no 32-63", 1, None),
 ];
 
 #[test]
-fn one_fault() -> Result<(), Fail> {
-    for (options, start, rule, number) in &ONE_FAULT {
-        expect_opening(*options, start, *rule, Some(*number))?;
-    }
-    Ok(())
-}
-
-const MORE_FAULTS: [(u32, &str, u32, u8); 13] = [
-    (0, "yes 0", 0, 9),
-    (0, "both 0", 0, 9),
-    (0, "nothing", 2, 9),
-    (0, "contradiction", 9, 9),
-    (65, "both 0", 0, 9),
-    (65, "contradiction", 9, 9),
-    (4, "yes 4 both 0", 0, 7),
-    (4, "no 4 both 0", 0, 7),
-    (4, "both 4", 0, 7),
-    (4, "no 63", 2, 7),
-    (4, "contradiction", 2, 7),
-    (4, "both 3", 2, 8),
-    (64, "contradiction", u32::MAX, 8),
-];
-
-#[test]
-fn more_faults() -> Result<(), Fail> {
-    for (options, start, rule, number) in &MORE_FAULTS {
-        expect_opening(*options, start, *rule, Some(*number))?;
-    }
-    Ok(())
-}
-
-const NO_FAULT: [(u32, &str, u32); 6] = [
-    (1, "nothing", 0),
-    (1, "yes 0", 1),
-    (4, "yes 3 no 0-2", 0),
-    (63, "yes 62", 0),
-    (64, "yes 63 no 0", 1),
-    (64, "yes 0-31 no 32-63", 1),
-];
-
-#[test]
-fn no_fault() -> Result<(), Fail> {
-    for (options, start, rule) in &NO_FAULT {
-        expect_opening(*options, start, *rule, None)?;
+fn faults_at_opening() -> Result<(), Fail> {
+    for (options, start, rule, refused) in &OPENINGS {
+        expect_opening(*options, start, *rule, *refused)?;
     }
     Ok(())
 }
@@ -136,30 +116,36 @@ const SHEETS: [(&str, u32, &[&[u8]]); 3] = [
 #[test]
 fn rules_past_the_count(rt: HostRuntime) -> Result<(), Fail> {
     for (about, count, bodies) in &SHEETS {
-        expect_past_the_count(clause_sheets(rt.alloc(), bodies)?, *count, about)?;
+        expect_past_the_count(rt.alloc(), bodies, *count, about)?;
     }
     Ok(())
 }
 
-fn expect_past_the_count<R: RuleSet + Drop>(rules: R, count: u32, about: &str) -> Result<(), Fail> {
-    let tried = try_to_open(rules, 4, known("nothing")?, count);
-    expect_same(tried.refused, Some(10), about)?;
-    expect_same(tried.rules.count(), count, about)
+fn expect_past_the_count(
+    heap: Global,
+    bodies: &[&[u8]],
+    count: u32,
+    about: &str,
+) -> Result<(), Fail> {
+    let tried = try_to_open(
+        clause_sheets(heap, bodies)?,
+        4,
+        Assignment::new(0, 0),
+        count,
+    );
+    expect_same(
+        (tried.refused, tried.rules.count()),
+        (Some(10), count),
+        about,
+    )
 }
 
 // A file is not opened, and this is told of it.
-fn expect_told(heap: Global, bytes: &[u8], words: &str) -> Result<(), Fail> {
-    expect_fault(heap, open_file(FileSpace::reserve(heap)?, bytes), words)
-}
-
-fn expect_fault<T: Drop>(
-    heap: Global,
-    opened: Result<T, FileFault>,
-    words: &str,
-) -> Result<(), Fail> {
-    let fault = opened.err().ok_or("the file is opened")?;
-    let told = format!(in heap; "{fault}")?;
-    expect_same(told.as_str(), words, "told of the file")
+fn expect_told(heap: Global, bytes: &[u8], words: &str, place: usize) -> Result<(), Fail> {
+    match open_file(FileSpace::reserve(heap)?, bytes) {
+        Ok(_) => Err(Fail::new("the file is opened")),
+        Err(fault) => expect_words(heap, fault, words, "a faulty file", place),
+    }
 }
 
 // Where one byte of the sample is changed, and to what.
@@ -182,13 +168,8 @@ fn changed(place: usize, byte: u8) -> [u8; 65] {
 #[test]
 fn faulty_files(rt: HostRuntime) -> Result<(), Fail> {
     for (place, byte, words) in &CHANGED {
-        expect_told(rt.alloc(), &changed(*place, *byte), words)?;
+        expect_told(rt.alloc(), &changed(*place, *byte), words, *place)?;
     }
-    Ok(())
-}
-
-#[test]
-fn file_cut_short(rt: HostRuntime) -> Result<(), Fail> {
     let cut = SAMPLE.get(..64).ok_or("no such place")?;
-    expect_told(rt.alloc(), cut, "refused 2 record 60 0")
+    expect_told(rt.alloc(), cut, "refused 2 record 60 0", 64)
 }

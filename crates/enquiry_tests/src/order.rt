@@ -1,6 +1,6 @@
 // The selling order: options 32 to 47, then 16 to 31, then 0 to 15, then 48 to 63.
 use crate::build::{NO_CLAUSES, bit, known};
-use crate::expect::{expect_of_sheet, expect_same};
+use crate::expect::{OpenedSheet, Run, Then, expect_of_sheet, expect_same};
 use crate::words::EVERY_OPTION;
 use assignment::Assignment;
 use listing::first_unknown;
@@ -52,14 +52,17 @@ fn each_option_in_turn() -> Result<(), Fail> {
 // The options that are shown are free, all others no at the start, and the rule allows every build.
 fn expect_of_free(heap: Global, shown: &[u32], calls: &str) -> Result<(), Fail> {
     let free = shown.iter().fold(0, |free, option| free | bit(*option));
-    expect_of_sheet(
-        heap,
-        NO_CLAUSES,
-        64,
-        Assignment::new(0, !free),
+    let sheet = OpenedSheet {
+        body: NO_CLAUSES,
+        options: 64,
+        start: Assignment::new(0, !free),
+    };
+    let run = Run {
+        about: "free options",
         shown,
         calls,
-    )
+    };
+    expect_of_sheet(heap, sheet, run, Then::Nothing)
 }
 
 // Of each two the letter of the one that is chosen first stands behind that of the other.

@@ -1,12 +1,13 @@
 // Whole runs on files: the recorded run, and whole listings with their choices.
-use crate::expect::{expect_of_file, expect_of_sample};
+use crate::expect::{FOUR, Run, Then, expect_of_file, expect_runs};
 use std::test::Fail;
 
 #[test]
-fn recorded_run(rt: HostRuntime) -> Result<(), Fail> {
-    expect_of_sample(
+fn runs_on_the_sample(rt: HostRuntime) -> Result<(), Fail> {
+    expect_runs(
         rt.alloc(),
         "
+        recorded run:
         next 2 | stopped 2
         next 2 | built yyyy 1
         settle 1 no | done
@@ -17,15 +18,8 @@ fn recorded_run(rt: HostRuntime) -> Result<(), Fail> {
         back | done
         back | refused 23
         look | known ????
-        ",
-    )
-}
 
-#[test]
-fn whole_listing(rt: HostRuntime) -> Result<(), Fail> {
-    expect_of_sample(
-        rt.alloc(),
-        "
+        whole listing:
         next 6 | built yyyy 3
         next 6 | built yyyn 0
         next 6 | built yyny 0
@@ -35,41 +29,8 @@ fn whole_listing(rt: HostRuntime) -> Result<(), Fail> {
         next 6 | built nnny 0
         next 6 | end 0
         next 6 | end 0
-        ",
-    )
-}
 
-// The table and the clauses of the example, with option 3 yes at the start. The asked rule is the clauses alone.
-const CLAUSES_ASKED: &[u8; 49] = b"\x11\0\x01\0\x04\x08\0\0\0\0\0\0\0\0\0\0\0\0\0\0\0\
-    \x09\0\x02\0\x02\0\x01\0\0\x02\0\x03\0\
-    \x06\0\x03\0\x02\x02\x03\x02\x01\x82\
-    \x01\0\x05\0\x01";
-
-#[test]
-fn start_and_asked_rule(rt: HostRuntime) -> Result<(), Fail> {
-    expect_of_file(
-        rt.alloc(),
-        CLAUSES_ASKED,
-        "
-        look | known ???y
-        settle 3 no | refused 22
-        settle 3 yes | refused 22
-        next 9 | built yyyy 3
-        next 9 | built yyny 0
-        next 9 | built ynny 0
-        next 9 | built nyyy 2
-        next 9 | built nyny 0
-        next 9 | built nnny 0
-        next 9 | end 0
-        ",
-    )
-}
-
-#[test]
-fn no_budget_at_each_position(rt: HostRuntime) -> Result<(), Fail> {
-    expect_of_sample(
-        rt.alloc(),
-        "
+        no budget at each position:
         next 0 | stopped 0
         next 0 | stopped 0
         next 0 | stopped 0
@@ -89,15 +50,8 @@ fn no_budget_at_each_position(rt: HostRuntime) -> Result<(), Fail> {
         next 0 | end 0
         next 0 | end 0
         next 4294967295 | end 0
-        ",
-    )
-}
 
-#[test]
-fn after_the_end(rt: HostRuntime) -> Result<(), Fail> {
-    expect_of_sample(
-        rt.alloc(),
-        "
+        after the end:
         settle 2 no | done
         next 9 | built yyny 1
         next 9 | built nyny 1
@@ -124,5 +78,36 @@ fn after_the_end(rt: HostRuntime) -> Result<(), Fail> {
         next 2 | stopped 2
         next 1 | built yyyy 1
         ",
+    )
+}
+
+// The table and the clauses of the example, with option 3 yes at the start. The asked rule is the clauses alone.
+const CLAUSES_ASKED: &[u8; 49] = b"\x11\0\x01\0\x04\x08\0\0\0\0\0\0\0\0\0\0\0\0\0\0\0\
+    \x09\0\x02\0\x02\0\x01\0\0\x02\0\x03\0\
+    \x06\0\x03\0\x02\x02\x03\x02\x01\x82\
+    \x01\0\x05\0\x01";
+
+#[test]
+fn start_and_asked_rule(rt: HostRuntime) -> Result<(), Fail> {
+    expect_of_file(
+        rt.alloc(),
+        CLAUSES_ASKED,
+        Run {
+            about: "the clauses asked",
+            shown: FOUR,
+            calls: "
+        look | known ???y
+        settle 3 no | refused 22
+        settle 3 yes | refused 22
+        next 9 | built yyyy 3
+        next 9 | built yyny 0
+        next 9 | built ynny 0
+        next 9 | built nyyy 2
+        next 9 | built nyny 0
+        next 9 | built nnny 0
+        next 9 | end 0
+        ",
+        },
+        Then::Nothing,
     )
 }

@@ -1,10 +1,11 @@
 // Lists of calls, answered from the opening on.
 use crate::build::known;
-use crate::expect::{FOUR, expect_all_calls, expect_reply, expect_same};
+use crate::expect;
+use crate::expect::{FOUR, Then, expect_same, expect_words};
 use crate::steps::sample_steps;
 use crate::words::InWords;
 use calls::{Call, Reply};
-use enquiry::Enquiry;
+use enquiry::{Enquiry, NotOpened};
 use ruleset::RuleSet;
 use std::alloc::Global;
 use std::test::Fail;
@@ -21,27 +22,28 @@ struct Run {
 fn expect_run(heap: Global, run: &Run) -> Result<(), Fail> {
     let mut replies = [Reply::Dead; 6];
     let replies = replies.get_mut(..run.replies.len()).ok_or("no such room")?;
-    let enquiry = given(Enquiry::run(sample_steps()?, 4, known("yes 3")?, 1, run.calls, replies))?;
+    let Ok(enquiry) = Enquiry::run(sample_steps()?, 4, known("yes 3")?, 1, run.calls, replies)
+    else {
+        return Err(Fail::new("the enquiry is not opened"));
+    };
     expect_replies(heap, replies, run.replies)?;
-    expect_all_calls(heap, enquiry, FOUR, run.then)
-}
-
-fn given<T, E: Drop>(found: Result<T, E>) -> Result<T, Fail> {
-    match found {
-        Ok(enquiry) => Ok(enquiry),
-        Err(_) => Err(Fail::new("the enquiry is not opened")),
-    }
+    let then = expect::Run {
+        about: "after the list",
+        shown: FOUR,
+        calls: run.then,
+    };
+    expect::expect_run(heap, enquiry, then, Then::Nothing)
 }
 
 fn expect_replies(heap: Global, replies: &[Reply], wanted: &[&str]) -> Result<(), Fail> {
     for (line, words) in wanted.iter().enumerate() {
         let reply = *replies.get(line).ok_or("a reply missing")?;
-        expect_reply(
+        expect_words(
             heap,
-            line,
-            "a call of the list",
             InWords { reply, shown: FOUR },
             words,
+            "the list",
+            line,
         )?;
     }
     Ok(())
@@ -151,11 +153,15 @@ fn expect_refused(
         calls,
         &mut replies,
     );
+    let Err(NotOpened { rules, refusal }) = run else {
+        return Err(Fail::new("the enquiry is opened"));
+    };
     expect_replies(heap, &replies, &["done", "dead"])?;
-    let refused = run.err().ok_or("the enquiry is opened")?;
-    expect_same(refused.refusal.number(), number, start)?;
-    expect_same(refused.rules.count(), 2, "the rules given back")?;
-    expect_same(refused.rules.notes.asked, 0, "no question")
+    expect_same(
+        (refusal.number(), rules.count(), rules.notes.asked),
+        (number, 2, 0),
+        start,
+    )
 }
 
 // The options, the start, the rule, and the number of the refusal.

@@ -1,6 +1,8 @@
 // Settlements: what fixes an option, and how many may stand.
-use crate::build::{NO_CLAUSES, bit, known, opened_sheet};
-use crate::expect::{expect_calls, expect_of_sample, expect_of_sheet, expect_same};
+use crate::build::{NO_CLAUSES, bit, clause_sheets, known, opened};
+use crate::expect::{
+    OpenedSheet, Run, Then, expect_calls, expect_of_sheet, expect_runs, expect_same,
+};
 use crate::words::EVERY_OPTION;
 use assignment::Assignment;
 use calls::CallRefusal;
@@ -10,10 +12,11 @@ use std::alloc::Global;
 use std::test::Fail;
 
 #[test]
-fn against_what_a_look_shows(rt: HostRuntime) -> Result<(), Fail> {
-    expect_of_sample(
+fn beside_what_a_look_shows(rt: HostRuntime) -> Result<(), Fail> {
+    expect_runs(
         rt.alloc(),
         "
+        against what a look shows:
         settle 0 yes | done
         look | known yy??
         settle 1 no | done
@@ -39,15 +42,8 @@ fn against_what_a_look_shows(rt: HostRuntime) -> Result<(), Fail> {
         back | done
         back | refused 23
         look | known ????
-        ",
-    )
-}
 
-#[test]
-fn what_a_look_shows(rt: HostRuntime) -> Result<(), Fail> {
-    expect_of_sample(
-        rt.alloc(),
-        "
+        what a look shows:
         settle 0 yes | done
         look | known yy??
         settle 1 yes | done
@@ -69,11 +65,15 @@ fn what_a_look_shows(rt: HostRuntime) -> Result<(), Fail> {
 fn fixed_at_the_start(rt: HostRuntime) -> Result<(), Fail> {
     expect_of_sheet(
         rt.alloc(),
-        NO_CLAUSES,
-        63,
-        known("yes 0 no 1 4-61")?,
-        &[0, 1, 2, 3, 62],
-        "
+        OpenedSheet {
+            body: NO_CLAUSES,
+            options: 63,
+            start: known("yes 0 no 1 4-61")?,
+        },
+        Run {
+            about: "fixed at the start",
+            shown: &[0, 1, 2, 3, 62],
+            calls: "
         look | known yn???
         settle 0 yes | refused 22
         settle 0 no | refused 22
@@ -91,6 +91,8 @@ fn fixed_at_the_start(rt: HostRuntime) -> Result<(), Fail> {
         settle 0 no | refused 22
         look | known yn???
         ",
+        },
+        Then::Nothing,
     )
 }
 
@@ -138,23 +140,29 @@ fn expect_sixty_four<R: RuleSet>(heap: Global, enquiry: &mut Enquiry<R>) -> Resu
     expect_calls(
         heap,
         enquiry,
-        EVERY_OPTION,
-        "
+        Run {
+            about: "sixty-four settlements",
+            shown: EVERY_OPTION,
+            calls: "
         look | known ynnynnynnynnynnynnynnynnynnynnynnynnynnynnynnynnynnynnynnynnynny
         settle 64 yes | refused 21
         next 0 | built ynnynnynnynnynnynnynnynnynnynnynnynnynnynnynnynnynnynnynnynnynny 0
         next 0 | end 0
         ",
+        },
     )?;
     take_each_back(enquiry)?;
     expect_calls(
         heap,
         enquiry,
-        EVERY_OPTION,
-        "
+        Run {
+            about: "sixty-four settlements",
+            shown: EVERY_OPTION,
+            calls: "
         back | refused 23
         next 63 | stopped 63
         ",
+        },
     )
 }
 
@@ -162,6 +170,11 @@ fn expect_sixty_four<R: RuleSet>(heap: Global, enquiry: &mut Enquiry<R>) -> Resu
 #[test]
 fn sixty_four_settlements(rt: HostRuntime) -> Result<(), Fail> {
     let heap = rt.alloc();
-    let mut enquiry = opened_sheet(heap, NO_CLAUSES, 64, known("nothing")?)?;
+    let mut enquiry = opened(
+        clause_sheets(heap, &[NO_CLAUSES])?,
+        64,
+        Assignment::new(0, 0),
+        0,
+    )?;
     expect_sixty_four(heap, &mut enquiry)
 }

@@ -7,11 +7,13 @@ use assignment::Assignment;
 use ruleset::RuleSet;
 use std::test::Fail;
 
-// How many questions a rule set was asked, and the last of them with its reply.
+// How many questions a rule set was asked, and the last of them with its reply; before the first, nothing is known in
+// either.
 #[derive(Clone, Copy, Debug, PartialEq, Eq)]
 pub(crate) struct Notes {
     pub(crate) asked: u64,
-    pub(crate) last: Option<(Assignment, Assignment)>,
+    pub(crate) question: Assignment,
+    pub(crate) reply: Assignment,
 }
 
 // Once an option is known yes, something is added.
@@ -33,7 +35,7 @@ impl Step {
 }
 
 // Two steps as rules 0 and 1.
-#[derive(Drop)]
+#[derive(Clone, Copy)]
 pub(crate) struct Steps {
     pub(crate) first: Step,
     pub(crate) second: Step,
@@ -55,8 +57,11 @@ impl RuleSet for Steps {
             1 => self.second.reply(question),
             _ => Assignment::contradiction(),
         };
-        self.notes.asked = self.notes.asked.saturating_add(1);
-        self.notes.last = Some((question, reply));
+        self.notes = Notes {
+            asked: self.notes.asked.saturating_add(1),
+            question,
+            reply,
+        };
         reply
     }
 }
@@ -65,7 +70,8 @@ impl RuleSet for Steps {
 pub(crate) fn unasked(first: Step, second: Step) -> Steps {
     let notes = Notes {
         asked: 0,
-        last: None,
+        question: Assignment::new(0, 0),
+        reply: Assignment::new(0, 0),
     };
     Steps {
         first,

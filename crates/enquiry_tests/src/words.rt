@@ -4,7 +4,6 @@ use assignment::{Assignment, Value};
 use calls::{Call, Reply};
 use listing::Progress;
 use std::fmt;
-use std::test::Fail;
 
 // All options, to be shown.
 pub(crate) const EVERY_OPTION: &[u32; 64] = &[
@@ -13,35 +12,39 @@ pub(crate) const EVERY_OPTION: &[u32; 64] = &[
     50, 51, 52, 53, 54, 55, 56, 57, 58, 59, 60, 61, 62, 63,
 ];
 
+// The call of a line, and the reply that is wanted, in words.
+pub(crate) fn line_of(line: &str) -> Option<(Call, &str)> {
+    let (call, wanted) = line.split_once('|')?;
+    Some((call_of(call)?, wanted.trim()))
+}
+
 // A call, as `settle 3 yes`, `back`, `again`, `look` or `next 2`.
-pub(crate) fn call_of(call: &str) -> Result<Call, Fail> {
+fn call_of(call: &str) -> Option<Call> {
     let mut words = call.split_whitespace();
-    match words.next() {
-        Some("settle") => {
-            let option = number_of(words.next())?;
-            let value = value_of(words.next())?;
-            Ok(Call::Settle { option, value })
-        }
-        Some("back") => Ok(Call::Back),
-        Some("again") => Ok(Call::Again),
-        Some("look") => Ok(Call::Look),
-        Some("next") => {
-            let budget = number_of(words.next())?;
-            Ok(Call::Next { budget })
-        }
-        _ => Err(Fail::new("no such call")),
+    match words.next()? {
+        "back" => Some(Call::Back),
+        "again" => Some(Call::Again),
+        "look" => Some(Call::Look),
+        "next" => Some(Call::Next {
+            budget: number_of(words.next()?)?,
+        }),
+        "settle" => Some(Call::Settle {
+            option: number_of(words.next()?)?,
+            value: value_of(words.next()?)?,
+        }),
+        _ => None,
     }
 }
 
-fn number_of(word: Option<&str>) -> Result<u32, Fail> {
-    Ok(word.ok_or("no number")?.parse::<u32>()?)
+fn number_of(word: &str) -> Option<u32> {
+    word.parse::<u32>().ok()
 }
 
-fn value_of(word: Option<&str>) -> Result<bool, Fail> {
+fn value_of(word: &str) -> Option<bool> {
     match word {
-        Some("yes") => Ok(true),
-        Some("no") => Ok(false),
-        _ => Err(Fail::new("neither yes nor no")),
+        "yes" => Some(true),
+        "no" => Some(false),
+        _ => None,
     }
 }
 
@@ -55,32 +58,43 @@ pub(crate) struct InWords<'a> {
 
 impl fmt::Display for InWords<'_> {
     fn fmt<W: fmt::Write>(&self, f: &mut fmt::Formatter<W>) -> fmt::Result {
-        match self.reply {
-            Reply::Done => f.write_str("done"),
-            Reply::Refused(refusal) => write!(f, "refused {}", refusal.number()),
-            Reply::Known(known) => {
-                f.write_str("known ")?;
-                write_letters(f, known, self.shown)
-            }
-            Reply::Dead => f.write_str("dead"),
-            Reply::Listed(progress) => write_progress(f, progress, self.shown),
+        let parts = parts_of(self.reply);
+        f.write_str(parts.word)?;
+        if let Some(known) = parts.known {
+            write_letters(f, known, self.shown)?;
+        }
+        match parts.number {
+            Some(number) => write!(f, " {number}"),
+            None => Ok(()),
         }
     }
 }
 
-fn write_progress<W: fmt::Write>(
-    f: &mut fmt::Formatter<W>,
-    progress: Progress,
-    shown: &[u32],
-) -> fmt::Result {
-    match progress {
-        Progress::Built { build, opened } => {
-            f.write_str("built ")?;
-            write_letters(f, Assignment::new(build.yes, !build.yes), shown)?;
-            write!(f, " {opened}")
+// The parts of a reply in words: its first word, what is known in it, and its number.
+#[derive(Clone, Copy)]
+struct Parts {
+    word: &'static str,
+    known: Option<Assignment>,
+    number: Option<u32>,
+}
+
+fn parts_of(reply: Reply) -> Parts {
+    let (word, known, number) = match reply {
+        Reply::Done => ("done", None, None),
+        Reply::Refused(refusal) => ("refused", None, Some(u32::from(refusal.number()))),
+        Reply::Known(known) => ("known ", Some(known), None),
+        Reply::Dead => ("dead", None, None),
+        Reply::Listed(Progress::Built { build, opened }) => {
+            let known = Assignment::new(build.yes, !build.yes);
+            ("built ", Some(known), Some(opened))
         }
-        Progress::Stopped { opened } => write!(f, "stopped {opened}"),
-        Progress::End { opened } => write!(f, "end {opened}"),
+        Reply::Listed(Progress::Stopped { opened }) => ("stopped", None, Some(opened)),
+        Reply::Listed(Progress::End { opened }) => ("end", None, Some(opened)),
+    };
+    Parts {
+        word,
+        known,
+        number,
     }
 }
 
