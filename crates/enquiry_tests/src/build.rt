@@ -16,7 +16,7 @@ pub(crate) const SAMPLE: &[u8; 65] = b"\x11\0\x01\0\x04\0\0\0\0\0\0\0\0\0\0\0\0\
     \x01\0\x05\0\0";
 
 // What is known, as `yes 0 2 no 3-7 both 8`: the options behind each word have its value, and of an option that is
-// named twice the last value counts. All others are unknown. `contradiction` and `nothing` need no option.
+// named twice the last value counts. All others are unknown. `nothing` needs no option.
 pub(crate) fn known(words: &str) -> Result<Assignment, Fail> {
     let mut yes = 0;
     let mut no = 0;
@@ -24,16 +24,12 @@ pub(crate) fn known(words: &str) -> Result<Assignment, Fail> {
     for word in words.split_whitespace() {
         match word {
             "nothing" => {}
-            "contradiction" => {
-                yes = u64::MAX;
-                no = u64::MAX;
-            }
             "yes" => value = (true, false),
             "no" => value = (false, true),
             "both" => value = (true, true),
             "unknown" => value = (false, false),
             _ => {
-                let options = mask_of(word)?;
+                let options = mask_of(word).ok_or("no such option")?;
                 yes = put(yes, options, value.0);
                 no = put(no, options, value.1);
             }
@@ -47,13 +43,11 @@ fn put(mask: u64, options: u64, set: bool) -> u64 {
 }
 
 // The mask of one option, as `3`, or of a range with both its ends, as `3-7`.
-fn mask_of(word: &str) -> Result<u64, Fail> {
+fn mask_of(word: &str) -> Option<u64> {
     let (low, high) = word.split_once('-').unwrap_or((word, word));
-    let mut mask = 0;
-    for option in low.parse::<u32>()?..=high.parse::<u32>()? {
-        mask |= 1u64.checked_shl(option).ok_or("an option past 63")?;
-    }
-    Ok(mask)
+    let from_low = u64::MAX.checked_shl(low.parse::<u32>().ok()?)?;
+    let from_high = u64::MAX.checked_shl(high.parse::<u32>().ok()?)?;
+    Some(from_low & !(from_high << 1))
 }
 
 // The mask of one option; of none from 64 on.

@@ -14,61 +14,67 @@ fn expect_last(heap: Global, calls: &str, yes: Option<u64>) -> Result<(), Fail> 
     expect_of_file(heap, SAMPLE, run, Then::Last(yes))
 }
 
-const WITHOUT_A_BUILD: [&str; 11] = [
-    "",
-    "look | known ????",
-    "next 2 | stopped 2",
-    "settle 1 no | done\nlook | known nnny",
-    "settle 0 yes | done\nsettle 1 no | done\nnext 9 | end 0",
-    "next 9 | built yyyy 3\nagain | done",
-    "next 9 | built yyyy 3\nsettle 3 yes | done",
-    "settle 3 yes | done\nnext 9 | built yyyy 2\nback | done",
-    "next 9 | built yyyy 3\nagain | done\nnext 2 | stopped 2",
-    "settle 1 no | done\nnext 0 | built nnny 0\nnext 0 | end 0\nagain | done",
-    "next 9 | built yyyy 3\nsettle 0 yes | done\nsettle 1 no | done\nnext 9 | end 0",
-];
-
-#[test]
-fn no_build_given(rt: HostRuntime) -> Result<(), Fail> {
-    for calls in &WITHOUT_A_BUILD {
-        expect_last(rt.alloc(), calls, None)?;
-    }
-    Ok(())
-}
-
-const WITH_A_BUILD: [(&str, u64); 8] = [
-    ("next 9 | built yyyy 3", 0b1111),
-    ("next 9 | built yyyy 3\nnext 9 | built yyyn 0", 0b0111),
+// Calls on the sample, and the last build if there is one.
+const LAST: [(&str, Option<u64>); 19] = [
+    ("", None),
+    ("look | known ????", None),
+    ("next 2 | stopped 2", None),
+    ("settle 1 no | done\nlook | known nnny", None),
+    (
+        "settle 0 yes | done\nsettle 1 no | done\nnext 9 | end 0",
+        None,
+    ),
+    ("next 9 | built yyyy 3\nagain | done", None),
+    ("next 9 | built yyyy 3\nsettle 3 yes | done", None),
+    (
+        "settle 3 yes | done\nnext 9 | built yyyy 2\nback | done",
+        None,
+    ),
+    (
+        "next 9 | built yyyy 3\nagain | done\nnext 2 | stopped 2",
+        None,
+    ),
+    (
+        "settle 1 no | done\nnext 0 | built nnny 0\nnext 0 | end 0\nagain | done",
+        None,
+    ),
+    (
+        "next 9 | built yyyy 3\nsettle 0 yes | done\nsettle 1 no | done\nnext 9 | end 0",
+        None,
+    ),
+    ("next 9 | built yyyy 3", Some(0b1111)),
+    ("next 9 | built yyyy 3\nnext 9 | built yyyn 0", Some(0b0111)),
     (
         "next 2 | stopped 2\nnext 1 | built yyyy 1\nlook | known ????",
-        0b1111,
+        Some(0b1111),
     ),
     (
         "settle 3 yes | done\nnext 9 | built yyyy 2\nsettle 3 no | refused 22",
-        0b1111,
+        Some(0b1111),
     ),
     (
         "next 9 | built yyyy 3\nback | refused 23\nsettle 4 yes | refused 21",
-        0b1111,
+        Some(0b1111),
     ),
     (
         "next 3 | built yyyy 3\nnext 0 | built yyyn 0\nnext 0 | built yyny 0\nnext 0 | stopped 0",
-        0b1011,
+        Some(0b1011),
     ),
     (
         "settle 1 no | done\nnext 0 | built nnny 0\nnext 0 | end 0\nnext 0 | end 0",
-        0b1000,
+        Some(0b1000),
     ),
     (
         "settle 1 no | done\nnext 0 | built nnny 0\nback | done\nnext 9 | built yyyy 3",
-        0b1111,
+        Some(0b1111),
     ),
 ];
 
+// Closed after the calls, an enquiry gives back the last build, or none.
 #[test]
 fn last_build(rt: HostRuntime) -> Result<(), Fail> {
-    for (calls, yes) in &WITH_A_BUILD {
-        expect_last(rt.alloc(), calls, Some(*yes))?;
+    for (calls, yes) in &LAST {
+        expect_last(rt.alloc(), calls, *yes)?;
     }
     Ok(())
 }

@@ -3,6 +3,7 @@
 use crate::build::{known, opened};
 use crate::expect::{FOUR, Run, expect_asked, expect_calls, expect_same};
 use crate::steps::{Notes, Steps, sample_steps};
+use assignment::Assignment;
 use ruleset::RuleSet;
 use std::alloc::Global;
 use std::test::Fail;
@@ -24,9 +25,9 @@ const NOTED: [Noted; 8] = [
         about: "listed by rule 0",
         rule: 0,
         calls: "
-            next 9 | built yy 1
-            next 9 | built ny 1
-            next 9 | built nn 0
+            next 9 | built yynn 1
+            next 9 | built nynn 1
+            next 9 | built nnnn 0
             next 9 | end 0
             ",
         asked: 6,
@@ -112,29 +113,28 @@ const NOTED: [Noted; 8] = [
     },
 ];
 
-const TWO: &[u32] = &[0, 1];
-
 // Whatever is inconsistent, the rules add as ever.
 fn expect_unchanged(rules: Steps) -> Result<(), Fail> {
     let mut rules = rules;
     expect_same(rules.count(), 2, "count")?;
     expect_asked(&mut rules, 1, "both 9", "both 9")?;
     expect_asked(&mut rules, 1, "yes 2 both 9", "yes 2 1 no 3 both 9")?;
-    expect_asked(&mut rules, 2, "both 9", "contradiction")
+    expect_asked(&mut rules, 2, "both 9", "both 0-63")
 }
 
 // An enquiry on rule 0 has two options; one on rule 1 has four, and option 3 is yes at the start.
 fn expect_noted(heap: Global, noted: &Noted) -> Result<(), Fail> {
-    let (options, start, shown) = match noted.rule {
-        0 => (2, "nothing", TWO),
-        _ => (4, "yes 3", FOUR),
+    let (options, yes) = match noted.rule {
+        0 => (2, 0),
+        _ => (4, 0b1000),
     };
     let run = Run {
         about: noted.about,
-        shown,
+        shown: FOUR,
         calls: noted.calls,
     };
-    let mut enquiry = opened(sample_steps()?, options, known(start)?, noted.rule)?;
+    let start = Assignment::new(yes, 0);
+    let mut enquiry = opened(sample_steps()?, options, start, noted.rule)?;
     expect_calls(heap, &mut enquiry, run)?;
     let rules = enquiry.close().rules;
     let notes = Notes {

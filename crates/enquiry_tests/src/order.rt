@@ -22,7 +22,7 @@ const FIRST_UNKNOWN: [(&str, Option<u8>); 14] = [
     ("yes 0-47", Some(48)),
     ("yes 0-47 no 48-62", Some(63)),
     ("yes 0-31 no 32-63", None),
-    ("contradiction", None),
+    ("both 0-63", None),
 ];
 
 #[test]

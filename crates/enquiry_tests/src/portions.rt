@@ -16,29 +16,20 @@ pub(crate) fn expect_in_portions<R: RuleSet>(
     enquiry: &mut Enquiry<R>,
     wanted: Listed,
 ) -> Result<(), Fail> {
-    for first in 0..=8 {
-        for second in 0..=8 {
-            expect_with_third(enquiry, first, second, wanted)?;
-        }
+    for number in 0..243 {
+        let third = match number % 3 {
+            0 => 1,
+            1 => 2,
+            _ => 9,
+        };
+        expect_listed(enquiry, &[number / 27, number / 3 % 9, third], wanted)?;
+        enquiry.again();
     }
-    for budget in 1..=8 {
+    for budget in 1..9 {
         expect_listed(enquiry, &[budget], wanted)?;
         enquiry.again();
     }
     expect_listed(enquiry, &[u32::MAX], wanted)
-}
-
-fn expect_with_third<R: RuleSet>(
-    enquiry: &mut Enquiry<R>,
-    first: u32,
-    second: u32,
-    wanted: Listed,
-) -> Result<(), Fail> {
-    for third in &[1, 2, 9] {
-        expect_listed(enquiry, &[first, second, *third], wanted)?;
-        enquiry.again();
-    }
-    Ok(())
 }
 
 // No calls before the listing.

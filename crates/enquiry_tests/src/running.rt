@@ -8,12 +8,14 @@ use calls::{Call, Reply};
 use enquiry::{Enquiry, NotOpened};
 use ruleset::RuleSet;
 use std::alloc::Global;
+use std::fmt;
 use std::test::Fail;
 
 // There is room for as many replies as are named here.
 struct Run {
     calls: &'static [Call],
-    replies: &'static [&'static str],
+    room: usize,
+    replies: &'static str,
     then: &'static str,
 }
 
@@ -21,12 +23,12 @@ struct Run {
 // Option 3 is yes at the start, and a letter stands for each of the four options.
 fn expect_run(heap: Global, run: &Run) -> Result<(), Fail> {
     let mut replies = [Reply::Dead; 6];
-    let replies = replies.get_mut(..run.replies.len()).ok_or("no such room")?;
+    let replies = replies.get_mut(..run.room).ok_or("no such room")?;
     let Ok(enquiry) = Enquiry::run(sample_steps()?, 4, known("yes 3")?, 1, run.calls, replies)
     else {
         return Err(Fail::new("the enquiry is not opened"));
     };
-    expect_replies(heap, replies, run.replies)?;
+    expect_words(heap, Listed { replies }, run.replies, "the replies", 0)?;
     let then = expect::Run {
         about: "after the list",
         shown: FOUR,
@@ -35,18 +37,20 @@ fn expect_run(heap: Global, run: &Run) -> Result<(), Fail> {
     expect::expect_run(heap, enquiry, then, Then::Nothing)
 }
 
-fn expect_replies(heap: Global, replies: &[Reply], wanted: &[&str]) -> Result<(), Fail> {
-    for (line, words) in wanted.iter().enumerate() {
-        let reply = *replies.get(line).ok_or("a reply missing")?;
-        expect_words(
-            heap,
-            InWords { reply, shown: FOUR },
-            words,
-            "the list",
-            line,
-        )?;
+// Replies in words, with a comma behind each.
+#[derive(Clone, Copy)]
+struct Listed<'a> {
+    replies: &'a [Reply],
+}
+
+impl fmt::Display for Listed<'_> {
+    fn fmt<W: fmt::Write>(&self, f: &mut fmt::Formatter<W>) -> fmt::Result {
+        for reply in self.replies {
+            let (reply, shown) = (*reply, FOUR);
+            write!(f, "{},", InWords { reply, shown })?;
+        }
+        Ok(())
     }
-    Ok(())
 }
 
 #[test]
@@ -68,14 +72,8 @@ fn as_many_replies_as_calls(rt: HostRuntime) -> Result<(), Fail> {
                 Call::Look,
                 Call::Next { budget: 1 },
             ],
-            replies: &[
-                "stopped 2",
-                "built yyny 1",
-                "refused 22",
-                "done",
-                "known n??y",
-                "stopped 1",
-            ],
+            room: 6,
+            replies: "stopped 2,built yyny 1,refused 22,done,known n??y,stopped 1,",
             then: "next 9 | built nyny 1",
         },
     )
@@ -84,12 +82,14 @@ fn as_many_replies_as_calls(rt: HostRuntime) -> Result<(), Fail> {
 const MORE_ROOM: [Run; 2] = [
     Run {
         calls: &[Call::Back, Call::Next { budget: 9 }],
-        replies: &["refused 23", "built yyny 3", "dead", "dead"],
+        room: 4,
+        replies: "refused 23,built yyny 3,dead,dead,",
         then: "next 9 | built ynny 1",
     },
     Run {
         calls: &[Call::Next { budget: 2 }],
-        replies: &["stopped 2"],
+        room: 1,
+        replies: "stopped 2,",
         then: "next 9 | built yyny 1",
     },
 ];
@@ -118,12 +118,14 @@ const SIX_CALLS: &[Call] = &[
 const LESS_ROOM: [Run; 2] = [
     Run {
         calls: SIX_CALLS,
-        replies: &["stopped 2", "done"],
+        room: 2,
+        replies: "stopped 2,done,",
         then: "look | known ?n?y\nback | done\nback | refused 23",
     },
     Run {
         calls: SIX_CALLS,
-        replies: &["stopped 2"],
+        room: 1,
+        replies: "stopped 2,",
         then: "next 9 | built yyny 1",
     },
 ];
@@ -156,7 +158,7 @@ fn expect_refused(
     let Err(NotOpened { rules, refusal }) = run else {
         return Err(Fail::new("the enquiry is opened"));
     };
-    expect_replies(heap, &replies, &["done", "dead"])?;
+    expect_words(heap, Listed { replies: &replies }, "done,dead,", start, 0)?;
     expect_same(
         (refusal.number(), rules.count(), rules.notes.asked),
         (number, 2, 0),

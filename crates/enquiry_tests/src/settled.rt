@@ -109,16 +109,9 @@ fn settle_each<R: RuleSet>(enquiry: &mut Enquiry<R>) -> Result<(), Fail> {
 
 fn expect_each_fixed<R: RuleSet>(enquiry: &mut Enquiry<R>) -> Result<(), Fail> {
     for option in 0..64 {
-        expect_same(
-            enquiry.settle(option, true),
-            Err(CallRefusal::Fixed),
-            "one more yes",
-        )?;
-        expect_same(
-            enquiry.settle(option, false),
-            Err(CallRefusal::Fixed),
-            "one more no",
-        )?;
+        let both = (enquiry.settle(option, true), enquiry.settle(option, false));
+        let fixed = Err(CallRefusal::Fixed);
+        expect_same(both, (fixed, fixed), "one more yes or no")?;
     }
     Ok(())
 }
@@ -126,10 +119,10 @@ fn expect_each_fixed<R: RuleSet>(enquiry: &mut Enquiry<R>) -> Result<(), Fail> {
 // The newest settlement falls, and the older ones stay.
 fn take_each_back<R: RuleSet>(enquiry: &mut Enquiry<R>) -> Result<(), Fail> {
     for option in (0..64).rev() {
-        expect_same(enquiry.back(), Ok(()), "each settlement once")?;
         let older = bit(option).saturating_sub(1);
         let known = Assignment::new(THIRDS & older, !THIRDS & older);
-        expect_same(enquiry.look(), Some(known), "the newest is dropped")?;
+        let found = (enquiry.back(), enquiry.look());
+        expect_same(found, (Ok(()), Some(known)), "the newest is dropped")?;
     }
     Ok(())
 }

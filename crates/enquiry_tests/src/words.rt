@@ -14,24 +14,33 @@ pub(crate) const EVERY_OPTION: &[u32; 64] = &[
 
 // The call of a line, and the reply that is wanted, in words.
 pub(crate) fn line_of(line: &str) -> Option<(Call, &str)> {
-    let (call, wanted) = line.split_once('|')?;
-    Some((call_of(call)?, wanted.trim()))
+    let (call, wanted) = line.split_once(" | ")?;
+    Some((call_of(call.trim_start())?, wanted))
 }
 
 // A call, as `settle 3 yes`, `back`, `again`, `look` or `next 2`.
 fn call_of(call: &str) -> Option<Call> {
-    let mut words = call.split_whitespace();
-    match words.next()? {
+    match call.split_once(' ') {
+        None => call_of_one_word(call),
+        Some(("next", budget)) => Some(Call::Next {
+            budget: number_of(budget)?,
+        }),
+        Some(("settle", settlement)) => {
+            let (option, value) = settlement.split_once(' ')?;
+            Some(Call::Settle {
+                option: number_of(option)?,
+                value: value_of(value)?,
+            })
+        }
+        Some(_) => None,
+    }
+}
+
+fn call_of_one_word(call: &str) -> Option<Call> {
+    match call {
         "back" => Some(Call::Back),
         "again" => Some(Call::Again),
         "look" => Some(Call::Look),
-        "next" => Some(Call::Next {
-            budget: number_of(words.next()?)?,
-        }),
-        "settle" => Some(Call::Settle {
-            option: number_of(words.next()?)?,
-            value: value_of(words.next()?)?,
-        }),
         _ => None,
     }
 }
