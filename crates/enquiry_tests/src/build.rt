@@ -29,7 +29,7 @@ pub(crate) fn known(words: &str) -> Result<Assignment, Fail> {
             "both" => value = (true, true),
             "unknown" => value = (false, false),
             _ => {
-                let options = mask_of(word).ok_or("no such option")?;
+                let options = mask_of(word)?;
                 yes = put(yes, options, value.0);
                 no = put(no, options, value.1);
             }
@@ -43,11 +43,13 @@ fn put(mask: u64, options: u64, set: bool) -> u64 {
 }
 
 // The mask of one option, as `3`, or of a range with both its ends, as `3-7`.
-fn mask_of(word: &str) -> Option<u64> {
+fn mask_of(word: &str) -> Result<u64, Fail> {
     let (low, high) = word.split_once('-').unwrap_or((word, word));
-    let from_low = u64::MAX.checked_shl(low.parse::<u32>().ok()?)?;
-    let from_high = u64::MAX.checked_shl(high.parse::<u32>().ok()?)?;
-    Some(from_low & !(from_high << 1))
+    let mut mask = 0;
+    for option in low.parse::<u32>()?..=high.parse::<u32>()? {
+        mask |= 1u64.checked_shl(option).ok_or("an option past 63")?;
+    }
+    Ok(mask)
 }
 
 // The mask of one option; of none from 64 on.

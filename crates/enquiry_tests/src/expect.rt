@@ -139,11 +139,10 @@ pub(crate) fn expect_of_sheet(
     )
 }
 
-// Runs on the sample apart from each other, with an empty line between them. Above the calls of each stands what it is
-// about.
-pub(crate) fn expect_runs(heap: Global, runs: &str) -> Result<(), Fail> {
-    for text in runs.split("\n\n") {
-        let (about, calls) = text.trim().split_once('\n').ok_or("no calls")?;
+// Runs on the sample, each of a new enquiry. Above its calls stands what it is about.
+pub(crate) fn expect_runs(heap: Global, runs: &[&str]) -> Result<(), Fail> {
+    for run in runs {
+        let (about, calls) = run.split_once('\n').ok_or("no calls")?;
         let run = Run {
             about,
             shown: FOUR,
@@ -183,7 +182,10 @@ pub(crate) fn expect_listed<R: RuleSet>(
     for _ in 0..500 {
         for budget in budgets {
             let progress = enquiry.next(*budget);
-            left = left_after(progress, *budget, left)?;
+            let Some(after) = left_after(progress, *budget, left) else {
+                return Err(Fail::new(format_args!("{progress:?} was not to come")));
+            };
+            left = after;
             if let Progress::End { .. } = progress {
                 return Ok(());
             }
@@ -192,26 +194,19 @@ pub(crate) fn expect_listed<R: RuleSet>(
     Err(Fail::new("the listing does not end"))
 }
 
-// What is left of a listing after a call that was to come.
-fn left_after<'a>(progress: Progress, budget: u32, left: Listed<'a>) -> Result<Listed<'a>, Fail> {
-    let Listed { builds, choices } = left;
-    let after = match (progress, builds) {
-        (Progress::Stopped { opened }, _) if opened == budget => Some((builds, opened)),
-        (Progress::Built { build, opened }, [first, rest @ ..])
-            if opened <= budget && build.yes == *first => { Some((rest, opened)) }
-        (Progress::End { opened }, []) if opened <= budget && opened == choices => {
-            Some((builds, opened))
+// What is left of a listing after this call, if the call was to come.
+fn left_after<'a>(progress: Progress, budget: u32, left: Listed<'a>) -> Option<Listed<'a>> {
+    let (opened, builds) = match (progress, left.builds) {
+        (Progress::Stopped { opened }, builds) if opened == budget => (opened, builds),
+        (Progress::Built { build, opened }, [first, rest @ ..]) if build.yes == *first => {
+            (opened, rest)
         }
-        _ => None,
+        (Progress::End { opened }, []) if opened == left.choices => (opened, left.builds),
+        _ => return None,
     };
-    match after {
-        Some((builds, opened)) if opened <= choices => Ok(Listed {
-            builds,
-            choices: choices.saturating_sub(opened),
-        }),
-        _ => Err(Fail::new(format_args!(
-            "{progress:?} by a budget of {budget}, where {} builds and {choices} choices are left",
-            builds.len()
-        ))),
+    if opened > budget {
+        return None;
     }
+    let choices = left.choices.checked_sub(opened)?;
+    Some(Listed { builds, choices })
 }

@@ -1,6 +1,6 @@
 // Enquiries on a rule set of another kind, which keeps notes and answers an inconsistent question without contradicting
 // all. If option 0 is yes, its rule 0 adds that 1 is yes; if option 2 is yes, its rule 1 adds that 1 is yes and 3 no.
-use crate::build::{known, opened};
+use crate::build::{bit, known, opened};
 use crate::expect::{FOUR, Run, expect_asked, expect_calls, expect_same};
 use crate::steps::{Notes, Steps, sample_steps};
 use assignment::Assignment;
@@ -126,7 +126,7 @@ fn expect_unchanged(rules: Steps) -> Result<(), Fail> {
 fn expect_noted(heap: Global, noted: &Noted) -> Result<(), Fail> {
     let (options, yes) = match noted.rule {
         0 => (2, 0),
-        _ => (4, 0b1000),
+        _ => (4, bit(3)),
     };
     let run = Run {
         about: noted.about,
@@ -134,7 +134,7 @@ fn expect_noted(heap: Global, noted: &Noted) -> Result<(), Fail> {
         calls: noted.calls,
     };
     let start = Assignment::new(yes, 0);
-    let mut enquiry = opened(sample_steps()?, options, start, noted.rule)?;
+    let mut enquiry = opened(sample_steps(), options, start, noted.rule)?;
     expect_calls(heap, &mut enquiry, run)?;
     let rules = enquiry.close().rules;
     let notes = Notes {
@@ -157,5 +157,5 @@ fn calls_and_notes(rt: HostRuntime) -> Result<(), Fail> {
 
 #[test]
 fn before_an_enquiry() -> Result<(), Fail> {
-    expect_unchanged(sample_steps()?)
+    expect_unchanged(sample_steps())
 }

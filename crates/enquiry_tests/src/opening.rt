@@ -32,7 +32,7 @@ fn try_to_open<R: RuleSet>(rules: R, options: u32, start: Assignment, rule: u32)
 // An enquiry on two rules is refused with this number, or opened. The rule set that is given back was asked once, as
 // before, and answers as ever.
 fn expect_opening(options: u32, start: &str, rule: u32, refused: Option<u8>) -> Result<(), Fail> {
-    let mut rules = sample_steps()?;
+    let mut rules = sample_steps();
     expect_asked(&mut rules, 0, "yes 5", "yes 5")?;
     let tried = try_to_open(rules, options, known(start)?, rule);
     rules = tried.rules;

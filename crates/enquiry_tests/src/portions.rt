@@ -1,6 +1,6 @@
 // Listings that are stopped and resumed wherever they can be: the builds are those of the unbroken listing, in its
 // order, and the choices of all portions add up to its choices.
-use crate::build::{NO_1, NO_2, NO_16, NO_32, SAMPLE, known, opened};
+use crate::build::{NO_1, NO_2, NO_16, NO_32, SAMPLE, bit, known, opened};
 use crate::expect::{
     Listed, OpenedSheet, Run, Then, expect_listed, expect_of_file, expect_of_sheet,
 };
@@ -165,6 +165,6 @@ fn rules_of_another_kind() -> Result<(), Fail> {
         builds: &[0b1011, 0b1001, 0b1010, 0b1000],
         choices: 7,
     };
-    let mut enquiry = opened(sample_steps()?, 4, known("yes 3")?, 1)?;
+    let mut enquiry = opened(sample_steps(), 4, Assignment::new(bit(3), 0), 1)?;
     expect_in_portions(&mut enquiry, wanted)
 }

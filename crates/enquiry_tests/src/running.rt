@@ -1,9 +1,9 @@
 // Lists of calls, answered from the opening on.
-use crate::build::known;
-use crate::expect;
-use crate::expect::{FOUR, Then, expect_same, expect_words};
+use crate::build::{bit, known};
+use crate::expect::{FOUR, Run, Then, expect_run, expect_same, expect_words};
 use crate::steps::sample_steps;
 use crate::words::InWords;
+use assignment::Assignment;
 use calls::{Call, Reply};
 use enquiry::{Enquiry, NotOpened};
 use ruleset::RuleSet;
@@ -11,39 +11,38 @@ use std::alloc::Global;
 use std::fmt;
 use std::test::Fail;
 
-// There is room for as many replies as are named here.
-struct Run {
+// Calls, for how many replies there is room, all replies that then stand there, and calls that are made after that.
+struct List {
     calls: &'static [Call],
     room: usize,
     replies: &'static str,
     then: &'static str,
 }
 
-// The calls are answered so, where every reply was `dead` before; the enquiry that is given then answers as wanted.
-// Option 3 is yes at the start, and a letter stands for each of the four options.
-fn expect_run(heap: Global, run: &Run) -> Result<(), Fail> {
+// Every reply was `dead` before. Option 3 is yes at the start, and a letter stands for each of the four options.
+fn expect_list(heap: Global, list: &List) -> Result<(), Fail> {
     let mut replies = [Reply::Dead; 6];
-    let replies = replies.get_mut(..run.room).ok_or("no such room")?;
-    let Ok(enquiry) = Enquiry::run(sample_steps()?, 4, known("yes 3")?, 1, run.calls, replies)
-    else {
-        return Err(Fail::new("the enquiry is not opened"));
-    };
-    expect_words(heap, Listed { replies }, run.replies, "the replies", 0)?;
-    let then = expect::Run {
+    let replies = replies.get_mut(..list.room).ok_or("no such room")?;
+    let then = Run {
         about: "after the list",
         shown: FOUR,
-        calls: run.then,
+        calls: list.then,
     };
-    expect::expect_run(heap, enquiry, then, Then::Nothing)
+    let start = Assignment::new(bit(3), 0);
+    match Enquiry::run(sample_steps(), 4, start, 1, list.calls, replies) {
+        Ok(enquiry) => expect_run(heap, enquiry, then, Then::Nothing)?,
+        Err(_) => return Err(Fail::new("the enquiry is not opened")),
+    }
+    expect_words(heap, AllReplies { replies }, list.replies, "the list", 0)
 }
 
 // Replies in words, with a comma behind each.
 #[derive(Clone, Copy)]
-struct Listed<'a> {
+struct AllReplies<'a> {
     replies: &'a [Reply],
 }
 
-impl fmt::Display for Listed<'_> {
+impl fmt::Display for AllReplies<'_> {
     fn fmt<W: fmt::Write>(&self, f: &mut fmt::Formatter<W>) -> fmt::Result {
         for reply in self.replies {
             let (reply, shown) = (*reply, FOUR);
@@ -55,9 +54,9 @@ impl fmt::Display for Listed<'_> {
 
 #[test]
 fn as_many_replies_as_calls(rt: HostRuntime) -> Result<(), Fail> {
-    expect_run(
+    expect_list(
         rt.alloc(),
-        &Run {
+        &List {
             calls: &[
                 Call::Next { budget: 2 },
                 Call::Next { budget: 9 },
@@ -79,14 +78,14 @@ fn as_many_replies_as_calls(rt: HostRuntime) -> Result<(), Fail> {
     )
 }
 
-const MORE_ROOM: [Run; 2] = [
-    Run {
+const MORE_ROOM: [List; 2] = [
+    List {
         calls: &[Call::Back, Call::Next { budget: 9 }],
         room: 4,
         replies: "refused 23,built yyny 3,dead,dead,",
         then: "next 9 | built ynny 1",
     },
-    Run {
+    List {
         calls: &[Call::Next { budget: 2 }],
         room: 1,
         replies: "stopped 2,",
@@ -96,8 +95,8 @@ const MORE_ROOM: [Run; 2] = [
 
 #[test]
 fn room_for_more_replies(rt: HostRuntime) -> Result<(), Fail> {
-    for run in &MORE_ROOM {
-        expect_run(rt.alloc(), run)?;
+    for list in &MORE_ROOM {
+        expect_list(rt.alloc(), list)?;
     }
     Ok(())
 }
@@ -115,14 +114,14 @@ const SIX_CALLS: &[Call] = &[
 ];
 
 // The calls past the room are not made.
-const LESS_ROOM: [Run; 2] = [
-    Run {
+const LESS_ROOM: [List; 2] = [
+    List {
         calls: SIX_CALLS,
         room: 2,
         replies: "stopped 2,done,",
         then: "look | known ?n?y\nback | done\nback | refused 23",
     },
-    Run {
+    List {
         calls: SIX_CALLS,
         room: 1,
         replies: "stopped 2,",
@@ -132,8 +131,8 @@ const LESS_ROOM: [Run; 2] = [
 
 #[test]
 fn room_for_fewer_replies(rt: HostRuntime) -> Result<(), Fail> {
-    for run in &LESS_ROOM {
-        expect_run(rt.alloc(), run)?;
+    for list in &LESS_ROOM {
+        expect_list(rt.alloc(), list)?;
     }
     Ok(())
 }
@@ -148,7 +147,7 @@ fn expect_refused(
     let mut replies = [Reply::Done, Reply::Dead];
     let calls = &[Call::Next { budget: 2 }, Call::Look];
     let run = Enquiry::run(
-        sample_steps()?,
+        sample_steps(),
         options,
         known(start)?,
         rule,
@@ -158,7 +157,13 @@ fn expect_refused(
     let Err(NotOpened { rules, refusal }) = run else {
         return Err(Fail::new("the enquiry is opened"));
     };
-    expect_words(heap, Listed { replies: &replies }, "done,dead,", start, 0)?;
+    expect_words(
+        heap,
+        AllReplies { replies: &replies },
+        "done,dead,",
+        start,
+        0,
+    )?;
     expect_same(
         (refusal.number(), rules.count(), rules.notes.asked),
         (number, 2, 0),

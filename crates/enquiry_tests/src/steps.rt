@@ -2,10 +2,9 @@
 ghost use Rattle.enquiry_tests.specs.Steps.{step, two_steps, two_steps_lawful};
 ghost use Rattle.std.specs.Prelude.{◌≡◌};
 
-use crate::build::known;
+use crate::build::bit;
 use assignment::Assignment;
 use ruleset::RuleSet;
-use std::test::Fail;
 
 // How many questions a rule set was asked, and the last of them with its reply; before the first, nothing is known in
 // either.
@@ -81,14 +80,14 @@ pub(crate) fn unasked(first: Step, second: Step) -> Steps {
 }
 
 // If option 0 is yes, rule 0 adds that 1 is yes; if option 2 is yes, rule 1 adds that 1 is yes and 3 no.
-pub(crate) fn sample_steps() -> Result<Steps, Fail> {
+pub(crate) fn sample_steps() -> Steps {
     let first = Step {
         option: 0,
-        added: known("yes 1")?,
+        added: Assignment::new(bit(1), 0),
     };
     let second = Step {
         option: 2,
-        added: known("yes 1 no 3")?,
+        added: Assignment::new(bit(1), bit(3)),
     };
-    Ok(unasked(first, second))
+    unasked(first, second)
 }

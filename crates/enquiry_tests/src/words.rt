@@ -14,8 +14,8 @@ pub(crate) const EVERY_OPTION: &[u32; 64] = &[
 
 // The call of a line, and the reply that is wanted, in words.
 pub(crate) fn line_of(line: &str) -> Option<(Call, &str)> {
-    let (call, wanted) = line.split_once(" | ")?;
-    Some((call_of(call.trim_start())?, wanted))
+    let (call, wanted) = line.split_once('|')?;
+    Some((call_of(call.trim())?, wanted.trim()))
 }
 
 // A call, as `settle 3 yes`, `back`, `again`, `look` or `next 2`.
