@@ -182,10 +182,7 @@ pub(crate) fn expect_listed<R: RuleSet>(
     for _ in 0..500 {
         for budget in budgets {
             let progress = enquiry.next(*budget);
-            let Some(after) = left_after(progress, *budget, left) else {
-                return Err(Fail::new(format_args!("{progress:?} was not to come")));
-            };
-            left = after;
+            left = left_after(progress, *budget, left).ok_or(("not to come", progress))?;
             if let Progress::End { .. } = progress {
                 return Ok(());
             }

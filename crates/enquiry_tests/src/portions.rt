@@ -8,7 +8,6 @@ use crate::steps::sample_steps;
 use assignment::Assignment;
 use enquiry::Enquiry;
 use ruleset::RuleSet;
-use std::alloc::Global;
 use std::test::Fail;
 
 // Budgets that take turns: any two from 0 to 8, and then 1, 2 or 9; and each from 1 to 8 alone.
@@ -139,20 +138,20 @@ fn choices_at_the_end(rt: HostRuntime) -> Result<(), Fail> {
             about: "choices at the end",
             shown: &[0, 1, 2],
             calls: "
-        next 9 | built yyy 3
-        next 9 | built yyn 0
-        next 9 | built yny 1
-        next 9 | built ynn 0
-        next 9 | end 1
-        next 9 | end 0
-        settle 0 no | done
-        look | known n??
-        next 0 | stopped 0
-        next 1 | end 1
-        next 1 | end 0
-        again | done
-        next 9 | end 1
-        ",
+                next 9 | built yyy 3
+                next 9 | built yyn 0
+                next 9 | built yny 1
+                next 9 | built ynn 0
+                next 9 | end 1
+                next 9 | end 0
+                settle 0 no | done
+                look | known n??
+                next 0 | stopped 0
+                next 1 | end 1
+                next 1 | end 0
+                again | done
+                next 9 | end 1
+                ",
         },
         Then::Nothing,
     )

@@ -97,17 +97,17 @@ fn start_and_asked_rule(rt: HostRuntime) -> Result<(), Fail> {
             about: "the clauses asked",
             shown: FOUR,
             calls: "
-        look | known ???y
-        settle 3 no | refused 22
-        settle 3 yes | refused 22
-        next 9 | built yyyy 3
-        next 9 | built yyny 0
-        next 9 | built ynny 0
-        next 9 | built nyyy 2
-        next 9 | built nyny 0
-        next 9 | built nnny 0
-        next 9 | end 0
-        ",
+                look | known ???y
+                settle 3 no | refused 22
+                settle 3 yes | refused 22
+                next 9 | built yyyy 3
+                next 9 | built yyny 0
+                next 9 | built ynny 0
+                next 9 | built nyyy 2
+                next 9 | built nyny 0
+                next 9 | built nnny 0
+                next 9 | end 0
+                ",
         },
         Then::Nothing,
     )

@@ -13,6 +13,7 @@ use std::test::Fail;
 
 // Calls, for how many replies there is room, all replies that then stand there, and calls that are made after that.
 struct List {
+    about: &'static str,
     calls: &'static [Call],
     room: usize,
     replies: &'static str,
@@ -24,7 +25,7 @@ fn expect_list(heap: Global, list: &List) -> Result<(), Fail> {
     let mut replies = [Reply::Dead; 6];
     let replies = replies.get_mut(..list.room).ok_or("no such room")?;
     let then = Run {
-        about: "after the list",
+        about: list.about,
         shown: FOUR,
         calls: list.then,
     };
@@ -33,7 +34,7 @@ fn expect_list(heap: Global, list: &List) -> Result<(), Fail> {
         Ok(enquiry) => expect_run(heap, enquiry, then, Then::Nothing)?,
         Err(_) => return Err(Fail::new("the enquiry is not opened")),
     }
-    expect_words(heap, AllReplies { replies }, list.replies, "the list", 0)
+    expect_words(heap, AllReplies { replies }, list.replies, list.about, 0)
 }
 
 // Replies in words, with a comma behind each.
@@ -52,55 +53,6 @@ impl fmt::Display for AllReplies<'_> {
     }
 }
 
-#[test]
-fn as_many_replies_as_calls(rt: HostRuntime) -> Result<(), Fail> {
-    expect_list(
-        rt.alloc(),
-        &List {
-            calls: &[
-                Call::Next { budget: 2 },
-                Call::Next { budget: 9 },
-                Call::Settle {
-                    option: 3,
-                    value: false,
-                },
-                Call::Settle {
-                    option: 0,
-                    value: false,
-                },
-                Call::Look,
-                Call::Next { budget: 1 },
-            ],
-            room: 6,
-            replies: "stopped 2,built yyny 1,refused 22,done,known n??y,stopped 1,",
-            then: "next 9 | built nyny 1",
-        },
-    )
-}
-
-const MORE_ROOM: [List; 2] = [
-    List {
-        calls: &[Call::Back, Call::Next { budget: 9 }],
-        room: 4,
-        replies: "refused 23,built yyny 3,dead,dead,",
-        then: "next 9 | built ynny 1",
-    },
-    List {
-        calls: &[Call::Next { budget: 2 }],
-        room: 1,
-        replies: "stopped 2,",
-        then: "next 9 | built yyny 1",
-    },
-];
-
-#[test]
-fn room_for_more_replies(rt: HostRuntime) -> Result<(), Fail> {
-    for list in &MORE_ROOM {
-        expect_list(rt.alloc(), list)?;
-    }
-    Ok(())
-}
-
 const SIX_CALLS: &[Call] = &[
     Call::Next { budget: 2 },
     Call::Settle {
@@ -113,15 +65,51 @@ const SIX_CALLS: &[Call] = &[
     Call::Back,
 ];
 
-// The calls past the room are not made.
-const LESS_ROOM: [List; 2] = [
+const LISTS: [List; 5] = [
     List {
+        about: "as many replies as calls",
+        calls: &[
+            Call::Next { budget: 2 },
+            Call::Next { budget: 9 },
+            Call::Settle {
+                option: 3,
+                value: false,
+            },
+            Call::Settle {
+                option: 0,
+                value: false,
+            },
+            Call::Look,
+            Call::Next { budget: 1 },
+        ],
+        room: 6,
+        replies: "stopped 2,built yyny 1,refused 22,done,known n??y,stopped 1,",
+        then: "next 9 | built nyny 1",
+    },
+    List {
+        about: "room for two more replies",
+        calls: &[Call::Back, Call::Next { budget: 9 }],
+        room: 4,
+        replies: "refused 23,built yyny 3,dead,dead,",
+        then: "next 9 | built ynny 1",
+    },
+    List {
+        about: "one call",
+        calls: &[Call::Next { budget: 2 }],
+        room: 1,
+        replies: "stopped 2,",
+        then: "next 9 | built yyny 1",
+    },
+    // The calls past the room are not made.
+    List {
+        about: "room for two replies",
         calls: SIX_CALLS,
         room: 2,
         replies: "stopped 2,done,",
         then: "look | known ?n?y\nback | done\nback | refused 23",
     },
     List {
+        about: "room for one reply",
         calls: SIX_CALLS,
         room: 1,
         replies: "stopped 2,",
@@ -130,8 +118,8 @@ const LESS_ROOM: [List; 2] = [
 ];
 
 #[test]
-fn room_for_fewer_replies(rt: HostRuntime) -> Result<(), Fail> {
-    for list in &LESS_ROOM {
+fn calls_and_room(rt: HostRuntime) -> Result<(), Fail> {
+    for list in &LISTS {
         expect_list(rt.alloc(), list)?;
     }
     Ok(())

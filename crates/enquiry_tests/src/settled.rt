@@ -75,23 +75,23 @@ fn fixed_at_the_start(rt: HostRuntime) -> Result<(), Fail> {
             about: "fixed at the start",
             shown: &[0, 1, 2, 3, 62],
             calls: "
-        look | known yn???
-        settle 0 yes | refused 22
-        settle 0 no | refused 22
-        settle 1 yes | refused 22
-        settle 1 no | refused 22
-        settle 62 no | done
-        settle 63 no | refused 21
-        settle 3 yes | done
-        look | known yn?yn
-        next 1 | built ynyyn 1
-        next 1 | built ynnyn 0
-        back | done
-        back | done
-        back | refused 23
-        settle 0 no | refused 22
-        look | known yn???
-        ",
+                look | known yn???
+                settle 0 yes | refused 22
+                settle 0 no | refused 22
+                settle 1 yes | refused 22
+                settle 1 no | refused 22
+                settle 62 no | done
+                settle 63 no | refused 21
+                settle 3 yes | done
+                look | known yn?yn
+                next 1 | built ynyyn 1
+                next 1 | built ynnyn 0
+                back | done
+                back | done
+                back | refused 23
+                settle 0 no | refused 22
+                look | known yn???
+                ",
         },
         Then::Nothing,
     )
@@ -138,11 +138,11 @@ fn expect_sixty_four<R: RuleSet>(heap: Global, enquiry: &mut Enquiry<R>) -> Resu
             about: "sixty-four settlements",
             shown: EVERY_OPTION,
             calls: "
-        look | known ynnynnynnynnynnynnynnynnynnynnynnynnynnynnynnynnynnynnynnynnynny
-        settle 64 yes | refused 21
-        next 0 | built ynnynnynnynnynnynnynnynnynnynnynnynnynnynnynnynnynnynnynnynnynny 0
-        next 0 | end 0
-        ",
+                look | known ynnynnynnynnynnynnynnynnynnynnynnynnynnynnynnynnynnynnynnynnynny
+                settle 64 yes | refused 21
+                next 0 | built ynnynnynnynnynnynnynnynnynnynnynnynnynnynnynnynnynnynnynnynnynny 0
+                next 0 | end 0
+                ",
         },
     )?;
     take_each_back(enquiry)?;
@@ -153,9 +153,9 @@ fn expect_sixty_four<R: RuleSet>(heap: Global, enquiry: &mut Enquiry<R>) -> Resu
             about: "sixty-four settlements",
             shown: EVERY_OPTION,
             calls: "
-        back | refused 23
-        next 63 | stopped 63
-        ",
+                back | refused 23
+                next 63 | stopped 63
+                ",
         },
     )
 }
