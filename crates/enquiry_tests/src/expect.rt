@@ -26,17 +26,17 @@ pub(crate) fn expect_same<T: PartialEq + Debug + Copy>(
     Ok(())
 }
 
-// What was found is so in words. The case is told by what it is about, and by a line or a place.
+// What was found is so in words. The case is told by what it is about, and by the place of the line or byte.
 pub(crate) fn expect_words<T: Display + Copy>(
     heap: Global,
     found: T,
     wanted: &str,
     about: &str,
-    line: usize,
+    place: usize,
 ) -> Result<(), Fail> {
     let words = format!(in heap; "{found}")?;
     if words.as_str() != wanted {
-        return Err(Fail::new(format_args!("{about}, line {line}: {words} is not {wanted}")));
+        return Err(Fail::new(format_args!("{about}, at {place}: {words} is not {wanted}")));
     }
     Ok(())
 }
