@@ -11,54 +11,53 @@ use ruleset::RuleSet;
 use std::alloc::Global;
 use std::test::Fail;
 
+const BESIDE_A_LOOK: &[&str] = &[
+    "against what a look shows
+    settle 0 yes | done
+    look | known yy??
+    settle 1 no | done
+    look | dead
+    next 0 | end 0
+    next 5 | end 0
+    settle 0 no | refused 22
+    settle 1 yes | refused 22
+    settle 2 yes | done
+    settle 2 yes | refused 22
+    look | dead
+    again | done
+    next 5 | end 0
+    back | done
+    look | dead
+    back | done
+    look | known yy??
+    next 1 | stopped 1
+    next 1 | built yyyy 1
+    next 0 | built yyyn 0
+    next 0 | built yyny 0
+    next 0 | end 0
+    back | done
+    back | refused 23
+    look | known ????
+    ",
+    "what a look shows
+    settle 0 yes | done
+    look | known yy??
+    settle 1 yes | done
+    settle 1 yes | refused 22
+    settle 1 no | refused 22
+    look | known yy??
+    back | done
+    settle 1 no | done
+    look | dead
+    back | done
+    back | done
+    back | refused 23
+    ",
+];
+
 #[test]
 fn beside_what_a_look_shows(rt: HostRuntime) -> Result<(), Fail> {
-    expect_runs(
-        rt.alloc(),
-        &[
-            "against what a look shows
-            settle 0 yes | done
-            look | known yy??
-            settle 1 no | done
-            look | dead
-            next 0 | end 0
-            next 5 | end 0
-            settle 0 no | refused 22
-            settle 1 yes | refused 22
-            settle 2 yes | done
-            settle 2 yes | refused 22
-            look | dead
-            again | done
-            next 5 | end 0
-            back | done
-            look | dead
-            back | done
-            look | known yy??
-            next 1 | stopped 1
-            next 1 | built yyyy 1
-            next 0 | built yyyn 0
-            next 0 | built yyny 0
-            next 0 | end 0
-            back | done
-            back | refused 23
-            look | known ????
-            ",
-            "what a look shows
-            settle 0 yes | done
-            look | known yy??
-            settle 1 yes | done
-            settle 1 yes | refused 22
-            settle 1 no | refused 22
-            look | known yy??
-            back | done
-            settle 1 no | done
-            look | dead
-            back | done
-            back | done
-            back | refused 23
-            ",
-        ],
-    )
+    expect_runs(rt.alloc(), BESIDE_A_LOOK)
 }
 
 // Options 0 and 1 are fixed at the start; the rule allows every build.
