@@ -1,6 +1,8 @@
 // Drafts that were told another number of rules than the rule set has on which they are laid. The clause sheet `4` adds that
 // option 4 is yes.
-use crate::expect::{Asked, expect_each};
+use crate::build::{bodies, sheet_rules};
+use crate::expect::{Asked, expect_each, expect_laid};
+use sheet_rules::ClauseSheets;
 use std::test::Fail;
 
 const CASES: &str = "
@@ -70,4 +72,26 @@ const CASES: &str = "
 #[test]
 fn another_number_told(rt: HostRuntime) -> Result<(), Fail> {
     expect_each(rt.alloc(), Asked::Folders, CASES)
+}
+
+const ON_CLAUSE_SHEETS: &str = "
+    count | 2
+    the rule that was told | 0 | nothing | yes 1
+    the complement of it | 1 | no 0-63 | same
+    absent | 2 3
+";
+
+// Laid on clause sheets themselves, with no tables beside them.
+#[test]
+fn on_clause_sheets(rt: HostRuntime) -> Result<(), Fail> {
+    let heap = rt.alloc();
+    let bodies = bodies(heap, "1 / 2 / 3")?;
+    let sheets: ClauseSheets<'_> = sheet_rules(heap, bodies.as_slice(), 64)?;
+    expect_laid(
+        heap,
+        sheets,
+        "1: carry 0; complement 0",
+        "on clause sheets",
+        ON_CLAUSE_SHEETS,
+    )
 }
