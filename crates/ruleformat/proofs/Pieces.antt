@@ -1,7 +1,8 @@
 -- How bytes are cut into pieces: one piece at a time, pieces of one size, pieces that are joined, and pieces that are encoded again.
-use Rattle.std.proofs.Common.{◌≡◌, ℕ, zero, suc, ◌+◌, ◌-◌, ◌*◌, ◌<◌, ◌≤◌, List, [], ◌∷◌, ◌++◌, map, length, take, drop, sym, refl, ap, ◌∙◌, subst, not-suc-le-zero, suc-mul, arith}
+use Rattle.std.proofs.Common.{◌≡◌, ℕ, zero, suc, ◌+◌, ◌-◌, ◌*◌, ◌<◌, ◌≤◌, List, [], ◌∷◌, ◌++◌, map, length, get_or, take, drop, sym, refl, ap, ◌∙◌, subst, not-suc-le-zero, suc-mul, arith}
 use Rattle.std.specs.List.{flat_map}
-use Rattle.std.proofs.lemmas.List.{drop_at, length-append, length-drop, nil_from_length, take-append-drop}
+use Rattle.std.specs.Simd.{first_chunks}
+use Rattle.std.proofs.lemmas.List.{drop_at, drop-drop, length-append, length-drop, nil_from_length, take-append-drop}
 use Rattle.ruleformat.specs.Bytes.{pieces}
 use Rattle.ruleformat.specs.WellFormed.{Each}
 
@@ -65,3 +66,11 @@ module _ {X : Type 0} (size : List ℕ → ℕ) (f : List ℕ → X) (g : X → 
       ∙ ap (λ ys. ys ++ flat_map g (map f (pieces size 0 (drop n rest)))) h.0.2
       ∙ ap (λ ys. take n rest ++ ys) (pieces_encoded k (drop n rest) s t.1)
       ∙ take-append-drop n rest
+
+-- of n chunks of size s, the one with number i
+pub chunk_at : (s n i : ℕ) (xs d : List ℕ) → i < n → get_or (first_chunks s n xs) i d ≡ take s (drop (s * i) xs)
+chunk_at s zero i xs d h = absurd (omega arith)
+chunk_at s (suc n) zero xs d h = let e : 0 ≡ s * 0 = omega arith in ap (λ k. take s (drop k xs)) e
+chunk_at s (suc n) (suc i) xs d h =
+    let e : s * i + s ≡ s * suc i = omega (arith, suc-mul i s) in
+    chunk_at s n i (drop s xs) d (omega arith) ∙ ap (take s) (drop-drop (s * i) s xs ∙ ap (λ k. drop k xs) (omega (arith, e)))

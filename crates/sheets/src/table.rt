@@ -1,5 +1,5 @@
 // A table sheet: some options as columns, and rows that say yes or no to each.
-ghost use Rattle.std.specs.Prelude.{◌≡◌, ◌+◌, ◌≤◌, true, false, length, drop, MatchResult};
+ghost use Rattle.std.specs.Prelude.{◌≡◌, ◌+◌, ◌%◌, ◌≤◌, true, false, length, drop, MatchResult};
 ghost use Rattle.refusals.specs.Checks.{judged};
 ghost use Rattle.refusals.specs.declared.refusal.Refusal.TheVariants.{Unfit};
 ghost use Rattle.ruleformat.specs.Records.{at};
@@ -89,10 +89,13 @@ fn check_columns(columns: &[u8], place: usize, options: u32) -> Result<(), Sheet
 
 // No row sets a bit that stands for no column.
 fn check_rows(rows: &[u8], columns: u32, place: usize) -> Result<(), SheetFault>
+    requires { length rows.now % 2 ≡ 0 }
     ensures { result ≡ judged (row_checks columns place 0 (rows_in rows.now)) tt }
 {
-    for (item, row) in (Rows { rest: rows }).enumerate() {
-        if has_bit_from(u64::from(row), columns) {
+    // Pairs of bytes, and not `Rows`, whose lone last byte would be tested for at each row.
+    let (pairs, _) = rows.as_chunks();
+    for (item, row) in pairs.iter().enumerate() {
+        if has_bit_from(u64::from(u16::from_le_bytes(*row)), columns) {
             return Err(SheetFault::Item {
                 refusal: Refusal::OutOfRange,
                 place,

@@ -1,5 +1,5 @@
 -- One entry decides, or is added and leaves it to the entries that follow.
-use Rattle.std.proofs.Common.{◌≡◌, ℕ, zero, suc, ◌+◌, ◌*◌, ◌/◌, ◌%◌, ◌<◌, ◌≤◌, List, [], ◌∷◌, ◌++◌, map, length, get_or, take, drop, Ok, Err, vec_len, sym, refl, ap, ◌∙◌, arith, rules, Result, MatchResult}
+use Rattle.std.proofs.Common.{◌≡◌, ℕ, ◌+◌, ◌*◌, ◌/◌, ◌%◌, ◌<◌, ◌≤◌, List, [], ◌∷◌, ◌++◌, map, length, get_or, take, drop, Ok, Err, vec_len, sym, refl, ap, ◌∙◌, arith, rules, Result, MatchResult}
 use Rattle.std.proofs.lemmas.List.{append-nil, append_assoc, drop-drop, drop-take, get_or-take, length-drop, length_push, nil_from_length, take-take}
 use Rattle.std.proofs.lemmas.Bool.{le-ltb, lt-leb, ne_eqb}
 use Rattle.std.proofs.lemmas.Result.{err_from_is_err_and}
@@ -14,7 +14,7 @@ use Rattle.entries.specs.Fields.{entry_checks}
 use Rattle.entries.specs.declared.draft.Draft.{Draft}
 use Rattle.entries.specs.declared.fields.EntryFields.{EntryFields}
 use Rattle.ruleformat.specs.Folders.{at_entry, entries_checks, entries_of, entry_in, entry_pieces, entry_size, fields_of}
-use Rattle.ruleformat.proofs.Pieces.{pieces_more}
+use Rattle.ruleformat.proofs.Pieces.{chunk_at, pieces_more}
 use Rattle.rulefile.proofs.folder.add_entries.Goals as goal
 
 -- a draft with room, told a number of options in range, judges an entry by the entry's own checks
@@ -26,12 +26,6 @@ draft_decides d f room low high =
     simp (a, b, e)
 
 -- a chunk of twelve bytes has the fields of the bytes from its first on
-chunk_at : (n i : ℕ) (xs : List ℕ) (d : List ℕ) → i < n → get_or (first_chunks 12 n xs) i d ≡ take 12 (drop (12 * i) xs)
-chunk_at zero i xs d h = absurd (omega arith)
-chunk_at (suc n) zero xs d h = refl
-chunk_at (suc n) (suc i) xs d h =
-    chunk_at n i (drop 12 xs) d (omega arith) ∙ ap (take 12) (drop-drop (12 * i) 12 xs ∙ ap (λ k. drop k xs) (omega arith))
-
 same_fields : (xs : List ℕ) → fields_of (take 12 xs) ≡ fields_of xs
 same_fields xs = rw (get_or-take 12 xs 0 0 (omega arith), get_or-take 12 xs 1 0 (omega arith), get_or-take 12 xs 2 0 (omega arith), get_or-take 12 xs 3 0 (omega arith), drop-take 4 8 xs, take-take 8 8 (drop 4 xs) (omega arith))
 
@@ -75,7 +69,7 @@ module _ (n below place i : ℕ) (body : List ℕ) (some : 12 * i < length body)
 -- the chunk with number i has the fields of the bytes after i entries
 fields_at : {chunks : List (List ℕ)} {f : EntryFields} (body : List ℕ) (i : ℕ) → i < length body / 12 → chunks ≡ first_chunks 12 (length body / 12) body → f ≡ fields_of (get_or chunks i []) → f ≡ fields_of (drop (12 * i) body)
 fields_at body i h front e =
-    e ∙ ap (λ cs. fields_of (get_or cs i [])) front ∙ ap fields_of (chunk_at (length body / 12) i body [] h)
+    e ∙ ap (λ cs. fields_of (get_or cs i [])) front ∙ ap fields_of (chunk_at 12 (length body / 12) i body [] h)
     ∙ same_fields (drop (12 * i) body)
 
 -- what `add` answers, by the entry's own checks over what the draft was told at first
